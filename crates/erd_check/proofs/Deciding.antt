@@ -1,5 +1,9 @@
 -- Whether a value is a tree, by a test; of a tree the walk's list is that of all faults of the shape.
-use Rattle.erd_check.proofs.Common.{◌≡◌, ℕ, ◌<◌, Bool, true, false, ◌&&◌, List, length, pos, IfSome, Some, None, Option, is_lt, Ordering, Less, arith, and_parts, nat_list_cmp_total, AllByRecursion, IsStrictlySortedBy, Num, negative, Data, number, array, object, Items, no_items, item, Members, no_members, member, ListsAll, text_cmp, Report, Fault, Reason, Step, ShapeFault, NoneOf, fault_at, IsBeforeFirst, IsNumber, IsTree, AreTrees, AreMembers, names, told_of_report, IsInOrder, AreItemsInOrder, AreMembersInOrder, scope_inside, want_of_name, entry_want, reasons, Scope, Want, Object}
+use Rattle.erd_check.proofs.Common.{◌≡◌, ℕ, ◌<◌, Bool, true, false, ◌&&◌, List, length, pos, IfSome, Some, None, Option, is_lt, Ordering, Less, arith}
+use Rattle.erd_check.proofs.Common.{and_parts, nat_list_cmp_total, AllByRecursion, IsStrictlySortedBy, Num, negative, Data, number, array, object, Items}
+use Rattle.erd_check.proofs.Common.{no_items, item, Members, no_members, member, ListsAll, text_cmp, Report, Fault, Reason, Step, ShapeFault, NoneOf, fault_at}
+use Rattle.erd_check.proofs.Common.{IsBeforeFirst, IsNumber, IsTree, AreTrees, AreMembers, names, told_of_report, IsInOrder, AreItemsInOrder, AreMembersInOrder}
+use Rattle.erd_check.proofs.Common.{scope_inside, want_of_name, entry_want, reasons, Scope, Want, Object}
 use Rattle.erd_check.proofs.Walks.{shape_walk_lists}
 
 -- ---- lists of all faults

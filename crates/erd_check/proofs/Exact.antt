@@ -1,5 +1,7 @@
 -- Equality as JSON: trees that are equal as JSON are one tree.
-use Rattle.erd_check.proofs.Common.{◌≡◌, ℕ, Bool, true, ◌&&◌, List, pos, negsuc, bytes_eq, refl, ap, ap₂, and_parts, bytes_eq-Decides, Num, unsigned, negative, float, Data, null, boolean, number, string, array, object, Items, no_items, item, Members, no_members, member, IsNumber, IsTree, AreTrees, AreMembers, same_flag, same_number, is_same_json, are_same_items, are_same_members, arith}
+use Rattle.erd_check.proofs.Common.{◌≡◌, ℕ, Bool, true, ◌&&◌, List, pos, negsuc, bytes_eq, refl, ap, ap₂, and_parts, bytes_eq-Decides, Num, unsigned, negative}
+use Rattle.erd_check.proofs.Common.{float, Data, null, boolean, number, string, array, object, Items, no_items, item, Members, no_members, member, IsNumber}
+use Rattle.erd_check.proofs.Common.{IsTree, AreTrees, AreMembers, same_flag, same_number, is_same_json, are_same_items, are_same_members, arith}
 use Rattle.std.proofs.lemmas.Bool.Decides.{Decides-int_eq}
 
 pub text_exact : (a b : List ℕ) → bytes_eq a b ≡ true → a ≡ b

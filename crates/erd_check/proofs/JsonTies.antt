@@ -1,5 +1,9 @@
 -- Values that are equal as JSON are those that are tied in the order of JSON values and equal to themselves.
-use Rattle.erd_check.proofs.Common.{◌≡◌, ℕ, Bool, true, ◌&&◌, List, ℤ, Some, Option, bytes_eq, int_cmp, is_eq, Ordering, Equal, sym, refl, ap, ◌∙◌, subst, and_parts, and_from, tied_itself, tied_back, int_cmp_total, nat_list_cmp_total, exact_bytes, Equal-is, option_cmp, bool_cmp, ordering_then, Data, null, boolean, number, string, array, object, Items, no_items, item, Members, no_members, member, as_integer, then_both, text_cmp, same_flag, same_whole, is_same_json, are_same_items, are_same_members, json_cmp, items_cmp, members_cmp, arith}
+use Rattle.erd_check.proofs.Common.{◌≡◌, ℕ, Bool, true, ◌&&◌, List, ℤ, Some, Option, bytes_eq, int_cmp, is_eq, Ordering, Equal, sym, refl, ap, ◌∙◌, subst}
+use Rattle.erd_check.proofs.Common.{and_parts, and_from, tied_itself, tied_back, int_cmp_total, nat_list_cmp_total, exact_bytes, Equal-is, option_cmp, bool_cmp}
+use Rattle.erd_check.proofs.Common.{ordering_then, Data, null, boolean, number, string, array, object, Items, no_items, item, Members, no_members, member}
+use Rattle.erd_check.proofs.Common.{as_integer, then_both, text_cmp, same_flag, same_whole, is_same_json, are_same_items, are_same_members, json_cmp, items_cmp}
+use Rattle.erd_check.proofs.Common.{members_cmp, arith}
 use Rattle.erd_check.specs.code.JsonOrders.{json_cmp_total}
 use Rattle.erd_check.proofs.Exact.{text_exact, text_itself, flag_itself}
 
@@ -85,7 +89,8 @@ mutual
   members_themselves (member k d ms) (member l e ns) h =
       let first = and_parts (bytes_eq k l) (is_same_json d e && are_same_members ms ns) h in
       let both = and_parts (is_same_json d e) (are_same_members ms ns) first.1 in
-      and_from (bytes_eq k k) _ (text_itself k) (and_from (is_same_json d d) (are_same_members ms ms) (same_itself d e both.0) (members_themselves ms ns both.1))
+      and_from (bytes_eq k k) _ (text_itself k) (and_from (is_same_json d d) (are_same_members ms ms) (same_itself d e both.0)
+      (members_themselves ms ns both.1))
 
 -- ---- and to what it is tied with
 
@@ -114,7 +119,8 @@ mutual
       let tied = then_both (json_cmp d e) (members_cmp ms ns) name.1 in
       let first = and_parts (bytes_eq k k) (is_same_json d d && are_same_members ms ms) own in
       let both = and_parts (is_same_json d d) (are_same_members ms ms) first.1 in
-      and_from (bytes_eq k l) _ (tied_texts k l name.0) (and_from (is_same_json d e) (are_same_members ms ns) (tied_same d e tied.0 both.0) (tied_members ms ns tied.1 both.1))
+      and_from (bytes_eq k l) _ (tied_texts k l name.0) (and_from (is_same_json d e) (are_same_members ms ns) (tied_same d e tied.0 both.0)
+      (tied_members ms ns tied.1 both.1))
   tied_members ms ns h own = cc
 
 -- a value that is equal to one of two tied values is equal to the other

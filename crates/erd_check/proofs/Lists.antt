@@ -1,5 +1,6 @@
 -- Lists of entries and of members.
-use Rattle.erd_check.proofs.Common.{◌≡◌, suc, List, [], ◌∷◌, ◌++◌, length, string_bytes, String, string_cmp, Less, Global, refl, ap, AllByRecursion, IsStrictlySortedBy, Data, items_of, items_view, members_view, Value, text_cmp, list_of_items, names}
+use Rattle.erd_check.proofs.Common.{◌≡◌, suc, List, [], ◌∷◌, ◌++◌, length, string_bytes, String, string_cmp, Less, Global, refl, ap, AllByRecursion}
+use Rattle.erd_check.proofs.Common.{IsStrictlySortedBy, Data, items_of, items_view, members_view, Value, text_cmp, list_of_items, names}
 use Rattle.std.specs.Map.{keys_of}
 use Rattle.serde_json.proofs.Views.{Entry}
 

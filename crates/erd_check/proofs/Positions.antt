@@ -1,5 +1,6 @@
 -- Where the entries of a list stand, and what stands where one option gives another.
-use Rattle.erd_check.proofs.Common.{◌≡◌, ℕ, zero, suc, ◌+◌, List, [], ◌∷◌, drop, slice_get, Some, ap, ◌∙◌, subst, ⊎_elim, AllByRecursion, true, None, Option, option_map, option_and_then, refl, inl, inr}
+use Rattle.erd_check.proofs.Common.{◌≡◌, ℕ, zero, suc, ◌+◌, List, [], ◌∷◌, drop, slice_get, Some, ap, ◌∙◌, subst, ⊎_elim, AllByRecursion, true, None, Option}
+use Rattle.erd_check.proofs.Common.{option_map, option_and_then, refl, inl, inr}
 use Rattle.std.proofs.Common.{is_some}
 use Rattle.std.proofs.lemmas.List.{drop_more}
 use Rattle.std.proofs.lemmas.Option.{get_or_from_slice_get, slice_get_within}

@@ -1,5 +1,9 @@
 -- What is read from a text is a tree: members go in by `put`, and a number is kept as negative only below zero.
-use Rattle.erd_check.proofs.Common.{◌≡◌, ℕ, zero, suc, ◌^◌, Bool, true, false, ◌&&◌, List, drop, pos, negsuc, neg_ℤ, IfSome, if◌then◌else◌, nat_lt, nat_le, ◌==◌, slice_index, Some, None, Option, option_map, option_and_then, Ordering, Less, Equal, Greater, refl, ap, ◌∙◌, subst, nat_list_cmp_total, match_ordering, ordering_reverse, Num, unsigned, negative, float, Data, number, array, object, item, Members, no_members, member, put, is_integer, float_of, number_from, number_of, of_json, of_items, of_members, read, max_depth, text_cmp, IsBeforeFirst, IsNumber, IsTree, AreTrees, AreMembers}
+use Rattle.erd_check.proofs.Common.{◌≡◌, ℕ, zero, suc, ◌^◌, Bool, true, false, ◌&&◌, List, drop, pos, negsuc, neg_ℤ, IfSome, if◌then◌else◌, nat_lt, nat_le}
+use Rattle.erd_check.proofs.Common.{◌==◌, slice_index, Some, None, Option, option_map, option_and_then, Ordering, Less, Equal, Greater, refl, ap, ◌∙◌, subst}
+use Rattle.erd_check.proofs.Common.{nat_list_cmp_total, match_ordering, ordering_reverse, Num, unsigned, negative, float, Data, number, array, object, item}
+use Rattle.erd_check.proofs.Common.{Members, no_members, member, put, is_integer, float_of, number_from, number_of, of_json, of_items, of_members, read}
+use Rattle.erd_check.proofs.Common.{max_depth, text_cmp, IsBeforeFirst, IsNumber, IsTree, AreTrees, AreMembers}
 use Rattle.std.specs.Float.{binary64, float_is_finite}
 use Rattle.std.specs.Float.Numeral.{Parts, minus, scan_numeral, numeral_digits, nearest_float}
 use Rattle.json.specs.Lex.{tokens}
@@ -47,7 +51,8 @@ mapped_holds P Q f None each h = tt
 mapped_holds P Q f (Some a) each h = each a h
 
 -- what follows a value
-then_holds : {A B : Type 0} (P : A → Type 0) (Q : B → Type 0) (f : A → Option B) (o : Option A) → ((a : A) → P a → IfSome (f a) Q) → IfSome o P → IfSome (option_and_then f o) Q
+then_holds : {A B : Type 0} (P : A → Type 0) (Q : B → Type 0) (f : A → Option B) (o : Option A) → ((a : A) → P a → IfSome (f a) Q) → IfSome o P
+    → IfSome (option_and_then f o) Q
 then_holds P Q f None each h = tt
 then_holds P Q f (Some a) each h = each a h
 
@@ -67,13 +72,15 @@ signed-number (suc n) whole fits o h = either_holds IsNumber (whole && nat_lt 0 
 -- a numeral behind its sign
 number_from-number : (sign : Bool) (p : Parts) → IfSome (number_from sign p) IsNumber
 number_from-number true p = signed-number (numeral_digits p) (is_integer p) (nat_le (numeral_digits p) (2 ^ 63)) (float_of true p) (float_of-number true p)
-number_from-number false p = either_holds IsNumber (is_integer p && nat_lt (numeral_digits p) (2 ^ 64)) (Some (unsigned (numeral_digits p))) (float_of false p) tt (float_of-number false p)
+number_from-number false p = either_holds IsNumber (is_integer p && nat_lt (numeral_digits p) (2 ^ 64)) (Some (unsigned (numeral_digits p))) (float_of false p)
+    tt (float_of-number false p)
 
 -- a numeral
 number_of-number : (s : List ℕ) → IfSome (number_of s) IsNumber
 unfolding number_of
 number_of-number s =
-    either_holds IsNumber (slice_index s 0 == minus) (number_from true (scan_numeral (drop 1 s))) (number_from false (scan_numeral s)) (number_from-number true (scan_numeral (drop 1 s))) (number_from-number false (scan_numeral s))
+    either_holds IsNumber (slice_index s 0 == minus) (number_from true (scan_numeral (drop 1 s))) (number_from false (scan_numeral s))
+    (number_from-number true (scan_numeral (drop 1 s))) (number_from-number false (scan_numeral s))
 
 -- ---- values
 
@@ -89,13 +96,15 @@ mutual
   of_items-trees : (js : json.Items) → IfSome (of_items js) AreTrees
   of_items-trees json.no_items = tt
   of_items-trees (json.item j js) =
-      then_holds IsTree AreTrees (λ d. option_map (item d) (of_items js)) (of_json j) (λ d tree. mapped_holds AreTrees AreTrees (item d) (of_items js) (λ ds trees. (tree, trees)) (of_items-trees js)) (of_json-tree j)
+      then_holds IsTree AreTrees (λ d. option_map (item d) (of_items js)) (of_json j)
+      (λ d tree. mapped_holds AreTrees AreTrees (item d) (of_items js) (λ ds trees. (tree, trees)) (of_items-trees js)) (of_json-tree j)
 
   -- the members of an object, which go in among those found before them
   of_members-trees : (ms : json.Members) (found : Members) → AreMembers found → IfSome (of_members ms found) AreMembers
   of_members-trees json.no_members found rise = rise
   of_members-trees (json.member k j ms) found rise =
-      then_holds IsTree AreMembers (λ d. of_members ms (put k d found)) (of_json j) (λ d tree. of_members-trees ms (put k d found) (put-trees k d found rise tree)) (of_json-tree j)
+      then_holds IsTree AreMembers (λ d. of_members ms (put k d found)) (of_json j)
+      (λ d tree. of_members-trees ms (put k d found) (put-trees k d found rise tree)) (of_json-tree j)
 
 -- the value of what the grammar reads, if it reads anything
 read-tree : (j : Option json.Json) → IfSome (option_and_then of_json j) IsTree

@@ -1,11 +1,17 @@
 -- The faults of one value: the list of its reasons holds each of them, and rises.
-use Rattle.erd_check.proofs.Common.{◌≡◌, ℕ, ◌<◌, ◌≤◌, Bool, true, false, List, [], ◌∷◌, ◌++◌, Some, None, filter, bytes_eq, nat_cmp, Less, sym, refl, subst, inl, inr, true≢false, arith, rules, and_parts, and_from, or_right, bytes_eq-Decides, slice_cmp, AllByRecursion, list_any, IsStrictlySortedBy, Data, reason_number, reason_cmp, required_names, Class, class, Reason, CarriedIdentity, ElectionCount, EmptyArray, MissingMember, NotPreElection, NotWhole, OutsideProfile, Repeated, UnknownReference, WrongClassText, WrongKind, lacks, names_wanted, is_shape_fault, scope_inside, asked_with, missing, other_reasons, reasons, Scope, scope, Want}
+use Rattle.erd_check.proofs.Common.{◌≡◌, ℕ, ◌<◌, ◌≤◌, Bool, true, false, List, [], ◌∷◌, ◌++◌, Some, None, filter, bytes_eq, nat_cmp, Less, sym, refl, subst}
+use Rattle.erd_check.proofs.Common.{inl, inr, true≢false, arith, rules, and_parts, and_from, or_right, bytes_eq-Decides, slice_cmp, AllByRecursion, list_any}
+use Rattle.erd_check.proofs.Common.{IsStrictlySortedBy, Data, reason_number, reason_cmp, required_names, Class, class, Reason, CarriedIdentity, ElectionCount}
+use Rattle.erd_check.proofs.Common.{EmptyArray, MissingMember, NotPreElection, NotWhole, OutsideProfile, Repeated, UnknownReference, WrongClassText, WrongKind}
+use Rattle.erd_check.proofs.Common.{lacks, names_wanted, is_shape_fault, scope_inside, asked_with, missing, other_reasons, reasons, Scope, scope, Want}
 use Rattle.std.proofs.lemmas.List.Kept.{IsStrictlySortedBy-filter}
-use Rattle.erd_check.proofs.Order.{In, In-append, In-append_left, In-append_right, In-map, In-map_from, In-filter, In-filter_kept, Below, sorted_append, sorted_map, In-all}
+use Rattle.erd_check.proofs.Order.{In, In-append, In-append_left, In-append_right, In-map, In-map_from, In-filter, In-filter_kept, Below, sorted_append}
+use Rattle.erd_check.proofs.Order.{sorted_map, In-all}
 
 -- ---- tests
 
-in_head : (n x : List ℕ) (xs : List (List ℕ)) (b : Bool) → bytes_eq n x ≡ b → (list_any (bytes_eq n) xs ≡ true → In n xs) → list_any (bytes_eq n) (x ∷ xs) ≡ true → In n (x ∷ xs)
+in_head : (n x : List ℕ) (xs : List (List ℕ)) (b : Bool) → bytes_eq n x ≡ b → (list_any (bytes_eq n) xs ≡ true → In n xs)
+    → list_any (bytes_eq n) (x ∷ xs) ≡ true → In n (x ∷ xs)
 in_head n x xs true e more h = inl (sym ((bytes_eq-Decides n x).0 e))
 in_head n x xs false e more h = inr (more (rw e at h))
 
@@ -30,7 +36,8 @@ abbrev repeats : Want → Bool → Data → List Reason
 repeats w repeated d = filter (is_shape_fault (asked_with w repeated d)) (Repeated ∷ [])
 
 -- only the last reason reads whether the value is repeated
-unrepeated : (w : Want) (repeated : Bool) (d : Data) (r : Reason) → is_shape_fault (asked_with w false d) r ≡ true → is_shape_fault (asked_with w repeated d) r ≡ true
+unrepeated : (w : Want) (repeated : Bool) (d : Data) (r : Reason) → is_shape_fault (asked_with w false d) r ≡ true
+    → is_shape_fault (asked_with w repeated d) r ≡ true
 unrepeated w repeated d Repeated h = absurd (true≢false (sym h))
 unrepeated w repeated d r h = h
 
@@ -57,12 +64,14 @@ reasons_sound w repeated d r h =
       | inr e ↦ repeats_sound w repeated d r e
     ]
 
-other_complete : (w : Want) (repeated : Bool) (d : Data) (r : Reason) → In r others → is_shape_fault (asked_with w false d) r ≡ true → In r (reasons w repeated d)
+other_complete : (w : Want) (repeated : Bool) (d : Data) (r : Reason) → In r others → is_shape_fault (asked_with w false d) r ≡ true
+    → In r (reasons w repeated d)
 other_complete w repeated d r i h =
     In-append_left r (kinds w d ++ missing (scope_inside w d) d ++ other_reasons w d) (repeats w repeated d)
     (In-append_right r (kinds w d ++ missing (scope_inside w d) d) (other_reasons w d) (In-filter_kept (is_shape_fault (asked_with w false d)) r others i h))
 
-missing_complete : (w : Want) (repeated : Bool) (d : Data) (n : List ℕ) → is_shape_fault (asked_with w repeated d) (MissingMember n) ≡ true → In (MissingMember n) (reasons w repeated d)
+missing_complete : (w : Want) (repeated : Bool) (d : Data) (n : List ℕ) → is_shape_fault (asked_with w repeated d) (MissingMember n) ≡ true
+    → In (MissingMember n) (reasons w repeated d)
 missing_complete w repeated d n h =
     let needed = names_wanted (scope_inside w d) in
     let both = and_parts (list_any (bytes_eq n) needed) (lacks d n) h in
@@ -75,7 +84,8 @@ pub reasons_complete : (w : Want) (repeated : Bool) (d : Data) (r : Reason) → 
 reasons_complete w repeated d WrongKind h =
     In-append_left WrongKind (kinds w d ++ missing (scope_inside w d) d ++ other_reasons w d) (repeats w repeated d)
     (In-append_left WrongKind (kinds w d ++ missing (scope_inside w d) d) (other_reasons w d)
-    (In-append_left WrongKind (kinds w d) (missing (scope_inside w d) d) (In-filter_kept (is_shape_fault (asked_with w false d)) WrongKind (WrongKind ∷ []) (inl refl) h)))
+    (In-append_left WrongKind (kinds w d) (missing (scope_inside w d) d)
+    (In-filter_kept (is_shape_fault (asked_with w false d)) WrongKind (WrongKind ∷ []) (inl refl) h)))
 reasons_complete w repeated d (MissingMember n) h = missing_complete w repeated d n h
 reasons_complete w repeated d WrongClassText h = other_complete w repeated d WrongClassText (inl refl) h
 reasons_complete w repeated d NotWhole h = other_complete w repeated d NotWhole (inr (inl refl)) h
@@ -131,7 +141,8 @@ between_weaker m n k l xs p q b r i =
     let a = b r i in
     (omega arith, omega arith)
 
-between_filter : (low high : ℕ) (test : Reason → Bool) (xs : List Reason) → AllByRecursion (λ r. (low ≤ reason_number r) × (reason_number r ≤ high)) xs → Between low high (filter test xs)
+between_filter : (low high : ℕ) (test : Reason → Bool) (xs : List Reason) → AllByRecursion (λ r. (low ≤ reason_number r) × (reason_number r ≤ high)) xs
+    → Between low high (filter test xs)
 between_filter low high test xs a r i = In-all (λ r. (low ≤ reason_number r) × (reason_number r ≤ high)) r xs a (In-filter test r xs i).0
 
 between_missing : (s : Scope) (d : Data) → Between 2 2 (missing s d)
@@ -144,18 +155,33 @@ reasons_sorted w repeated d =
     let s = scope_inside w d in
     let one : Between 1 1 (kinds w d) = between_filter 1 1 (is_shape_fault (asked_with w false d)) (WrongKind ∷ []) ((omega arith, omega arith), tt) in
     let two : Between 2 2 (missing s d) = between_missing s d in
-    let three : Between 3 10 (other_reasons w d) = between_filter 3 10 (is_shape_fault (asked_with w false d)) others
-    ((omega arith, omega arith), ((omega arith, omega arith), ((omega arith, omega arith), ((omega arith, omega arith), ((omega arith, omega arith), ((omega arith, omega arith), ((omega arith, omega arith), ((omega arith, omega arith), tt)))))))) in
-    let four : Between 11 11 (repeats w repeated d) = between_filter 11 11 (is_shape_fault (asked_with w repeated d)) (Repeated ∷ []) ((omega arith, omega arith), tt) in
+    let three : Between 3 10 (other_reasons w d) = between_filter 3 10 (is_shape_fault (asked_with w false d)) others (
+      (omega arith, omega arith),
+      (
+        (omega arith, omega arith),
+        (
+          (omega arith, omega arith),
+          (
+            (omega arith, omega arith),
+            ((omega arith, omega arith), ((omega arith, omega arith), ((omega arith, omega arith), ((omega arith, omega arith), tt)))),
+          ),
+        ),
+      ),
+    ) in
+    let four : Between 11 11 (repeats w repeated d) = between_filter 11 11 (is_shape_fault (asked_with w repeated d)) (Repeated ∷ [])
+    ((omega arith, omega arith), tt) in
     let one_two : Between 1 2 (kinds w d ++ missing s d) =
-    between_append 1 2 (kinds w d) (missing s d) (between_weaker 1 1 1 2 (kinds w d) (omega arith) (omega arith) one) (between_weaker 2 2 1 2 (missing s d) (omega arith) (omega arith) two) in
+    between_append 1 2 (kinds w d) (missing s d) (between_weaker 1 1 1 2 (kinds w d) (omega arith) (omega arith) one)
+    (between_weaker 2 2 1 2 (missing s d) (omega arith) (omega arith) two) in
     let to_three : Between 1 10 (kinds w d ++ missing s d ++ other_reasons w d) =
-    between_append 1 10 (kinds w d ++ missing s d) (other_reasons w d) (between_weaker 1 2 1 10 (kinds w d ++ missing s d) (omega arith) (omega arith) one_two) (between_weaker 3 10 1 10 (other_reasons w d) (omega arith) (omega arith) three) in
+    between_append 1 10 (kinds w d ++ missing s d) (other_reasons w d) (between_weaker 1 2 1 10 (kinds w d ++ missing s d) (omega arith) (omega arith) one_two)
+    (between_weaker 3 10 1 10 (other_reasons w d) (omega arith) (omega arith) three) in
     sorted_append reason_cmp (kinds w d ++ missing s d ++ other_reasons w d) (repeats w repeated d)
     (sorted_append reason_cmp (kinds w d ++ missing s d) (other_reasons w d)
     (sorted_append reason_cmp (kinds w d) (missing s d)
     (IsStrictlySortedBy-filter reason_cmp (is_shape_fault (asked_with w false d)) (WrongKind ∷ []) (alone_sorted WrongKind))
-    (sorted_map MissingMember (slice_cmp nat_cmp) reason_cmp (λ x y e. e) (filter (lacks d) (names_wanted s)) (IsStrictlySortedBy-filter (slice_cmp nat_cmp) (lacks d) (names_wanted s) (needed_sorted s)))
+    (sorted_map MissingMember (slice_cmp nat_cmp) reason_cmp (λ x y e. e) (filter (lacks d) (names_wanted s))
+    (IsStrictlySortedBy-filter (slice_cmp nat_cmp) (lacks d) (names_wanted s) (needed_sorted s)))
     (below_between 1 1 2 2 (kinds w d) (missing s d) (omega arith) one two))
     (IsStrictlySortedBy-filter reason_cmp (is_shape_fault (asked_with w false d)) others others_sorted)
     (below_between 1 2 3 10 (kinds w d ++ missing s d) (other_reasons w d) (omega arith) one_two three))

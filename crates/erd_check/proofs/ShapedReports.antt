@@ -1,5 +1,14 @@
 -- A report without a fault of the shape: each number in it is whole and fits 64 bits, and the names of all its objects rise.
-use Rattle.erd_check.proofs.Common.{◌≡◌, true, false, List, [], ◌∷◌, map, pos, int_lt, String, sym, ◌∙◌, subst, true≢false, arith, Data, number, array, object, Items, no_items, item, Members, no_members, member, items_of, members_of, view_step, view, Value, map-Value, IsNumber, ℕ, suc, Bool, not, ◌&&◌, ◌||◌, length, ◌==◌, Some, None, codes, Option, bytes_eq, refl, ap, list_all, Num, is_float, rows_of_class, is_reference_name, kind_of_identity, kind_of_member, is_required, Class, class, family, Role, role, Reason, reason, MemberKind, kind, is_empty_array, wants_whole, is_shape_fault, list_of_items, want_of_kind, is_report_class, member_want, carried_want, want_of_name, entry_want, asked_with, IsAskedInRange, scope, Want, Carried, ClassText, Member, Object, Reference, Status, inl, inr, cases_Bool, cond_both, IfSome, nat_cmp, Less, or_from, slice_cmp, AllByRecursion, IsStrictlySortedBy, get_member, get_item, ListsAll, text_cmp, Report, Fault, At, Name, ShapeFault, NoneOf, IsBeforeFirst, IsTree, AreTrees, AreMembers, IsShallow, names, IsInOrder, AreItemsInOrder, AreMembersInOrder, IsKnown, AreItemsKnown, AreMembersKnown, class_of_object, scope_inside, is_compared_set, asked, is_repeated, Scope}
+use Rattle.erd_check.proofs.Common.{◌≡◌, true, false, List, [], ◌∷◌, map, pos, int_lt, String, sym, ◌∙◌, subst, true≢false, arith, Data, number, array, object}
+use Rattle.erd_check.proofs.Common.{Items, no_items, item, Members, no_members, member, items_of, members_of, view_step, view, Value, map-Value, IsNumber, ℕ}
+use Rattle.erd_check.proofs.Common.{suc, Bool, not, ◌&&◌, ◌||◌, length, ◌==◌, Some, None, codes, Option, bytes_eq, refl, ap, list_all, Num, is_float}
+use Rattle.erd_check.proofs.Common.{rows_of_class, is_reference_name, kind_of_identity, kind_of_member, is_required, Class, class, family, Role, role, Reason}
+use Rattle.erd_check.proofs.Common.{reason, MemberKind, kind, is_empty_array, wants_whole, is_shape_fault, list_of_items, want_of_kind, is_report_class}
+use Rattle.erd_check.proofs.Common.{member_want, carried_want, want_of_name, entry_want, asked_with, IsAskedInRange, scope, Want, Carried, ClassText, Member}
+use Rattle.erd_check.proofs.Common.{Object, Reference, Status, inl, inr, cases_Bool, cond_both, IfSome, nat_cmp, Less, or_from, slice_cmp, AllByRecursion}
+use Rattle.erd_check.proofs.Common.{IsStrictlySortedBy, get_member, get_item, ListsAll, text_cmp, Report, Fault, At, Name, ShapeFault, NoneOf, IsBeforeFirst}
+use Rattle.erd_check.proofs.Common.{IsTree, AreTrees, AreMembers, IsShallow, names, IsInOrder, AreItemsInOrder, AreMembersInOrder, IsKnown, AreItemsKnown}
+use Rattle.erd_check.proofs.Common.{AreMembersKnown, class_of_object, scope_inside, is_compared_set, asked, is_repeated, Scope}
 use Rattle.std.specs.Prelude.{⊤}
 use Rattle.serde_json.specs.Number.{is_valid, num_of}
 use Rattle.serde_json.specs.declared.number.N.{N}
@@ -8,7 +17,8 @@ use Rattle.std.specs.declared.alloc.Global.{Global}
 use Rattle.serde_json.specs.declared.value.Value.TheOpen.{Value-F}
 use Rattle.serde_json.specs.declared.value.Value.TheFolds.{fold-roll-Value, ind-Value}
 use Rattle.erd_check.specs.Numbers.{IsFittingNumber, HasFittingNumbers, ItemsHaveFittingNumbers, MembersHaveFittingNumbers}
-use Rattle.erd_check.proofs.Shapes.{kind_of_class, classed, faultless, of_label, of_role, unrepeated, AsksObject, Within, Within-root, Within-step, get_member-first, get_member-later}
+use Rattle.erd_check.proofs.Shapes.{kind_of_class, classed, faultless, of_label, of_role, unrepeated, AsksObject, Within, Within-root, Within-step}
+use Rattle.erd_check.proofs.Shapes.{get_member-first, get_member-later}
 use Rattle.serde_json.specs.Written.{has_float, items_have_float, members_have_float}
 use Rattle.erd_check.specs.Shapes.{IsShaped}
 use Rattle.erd_check.proofs.Deciding.{no_fault_from_empty}
@@ -44,7 +54,8 @@ items_have : (es : List Known) → HaveNumbers (items_of (map view (map (λ e. e
 items_have [] = tt
 items_have (e ∷ es) = (e.1, items_have es)
 
-members_have : (es : List (String Global × Known)) → MembersHaveNumbers (members_of (map (λ (m : String Global × Value). (m.0, view m.1)) (map (λ (e : String Global × Known). (e.0, e.1.0)) es)))
+members_have : (es : List (String Global × Known)) → MembersHaveNumbers
+    (members_of (map (λ (m : String Global × Value). (m.0, view m.1)) (map (λ (e : String Global × Known). (e.0, e.1.0)) es)))
 members_have [] = tt
 members_have (e ∷ es) = (e.1.1, members_have es)
 
@@ -98,7 +109,8 @@ sought_kind k required e = refl
 
 sought_member : (c : Class) (name : List ℕ) → bytes_eq name (codes "@type") ≡ false → is_sought (member_want c name) ≡ true
 sought_member c name other =
-    cond_both (is_report_class c && bytes_eq name (codes "Status")) Status (want_of_kind (kind_of_member c name) (is_required c name)) (λ w. is_sought w ≡ true) (λ is. refl)
+    cond_both (is_report_class c && bytes_eq name (codes "Status")) Status (want_of_kind (kind_of_member c name) (is_required c name))
+    (λ w. is_sought w ≡ true) (λ is. refl)
     (λ is. sought_kind (kind_of_member c name) (is_required c name) (kind_of_class is_untyped c name other (untyped_rows c) (untyped_identity c) refl refl))
 
 pub sought_named : (r : Role) (c : Class) (name : List ℕ) → Sought (want_of_name (scope.Members r (Some c)) name)
@@ -108,7 +120,13 @@ sought_named r c name = elim (cases_Bool (bytes_eq name (codes "@type"))) [
 ]
 
 pub sought_carried : (name : List ℕ) → Sought (want_of_name scope.Carried name)
-sought_carried name = record { want = carried_want name; is = refl; sought = cond_both (bytes_eq name (codes "@id") || is_reference_name name) (Member kind.StrangeIdentity false) Carried (λ w. is_sought w ≡ true) (λ is. refl) (λ is. refl) }
+sought_carried name =
+    record {
+      want = carried_want name;
+      is = refl;
+      sought = cond_both (bytes_eq name (codes "@id") || is_reference_name name) (Member kind.StrangeIdentity false)
+          Carried (λ w. is_sought w ≡ true) (λ is. refl) (λ is. refl);
+    }
 
 pub sought_entry : (w v : Want) → entry_want w ≡ Some v → is_sought v ≡ true
 sought_entry (Member (kind.Many f) required) v e = let h : Reference f ≡ v = cc in ap is_sought (sym h)
@@ -171,7 +189,8 @@ asks_whole (Member kind.Carried required) repeated n s h = cc
 asks_whole w repeated n s h = let x : true ≡ false = h.none reason.WrongKind in cc
 
 -- so each such number is whole and fits
-pub fitting_number : (w : Want) (repeated : Bool) (n : Num) → is_sought w ≡ true → IsRight w repeated (number n) → IsAskedInRange w (number n) → IsFittingNumber n
+pub fitting_number : (w : Want) (repeated : Bool) (n : Num) → is_sought w ≡ true → IsRight w repeated (number n)
+    → IsAskedInRange w (number n) → IsFittingNumber n
 fitting_number w repeated n s h range = range (asks_whole w repeated n s h) (number_whole w repeated n s h)
 
 -- ---- the members of an object
@@ -214,14 +233,17 @@ module _ (t : Data) (clean : NoneOf (ShapeFault t)) where
   right : (w : Want) (repeated : Bool) (d : Data) → Within t (asked_with w repeated d) → IsRight w repeated d
   right w repeated d inside = record { none = λ r. faultless t clean (asked_with w repeated d) r inside }
 
-  scope_sought : (w : Want) (r : Role) (ms : Members) → AsksObject w r → Within t (asked w (object ms)) → AllSought (scope.Members r (class_of_object r (object ms)))
+  scope_sought : (w : Want) (r : Role) (ms : Members) → AsksObject w r → Within t (asked w (object ms))
+      → AllSought (scope.Members r (class_of_object r (object ms)))
   scope_sought w r ms h inside =
       let c = classed t clean w r (object ms) h refl inside in
       record { each = λ name. subst (λ o. Sought (want_of_name (scope.Members r o) name)) (sym c.among) (sought_named r c.class name) }
 
-  object_sought : (w : Want) (repeated : Bool) (ms : Members) → is_sought w ≡ true → Within t (asked_with w repeated (object ms)) → IsRight w repeated (object ms) → AllSought (scope_inside w (object ms))
+  object_sought : (w : Want) (repeated : Bool) (ms : Members) → is_sought w ≡ true → Within t (asked_with w repeated (object ms))
+      → IsRight w repeated (object ms) → AllSought (scope_inside w (object ms))
   object_sought (Object r) repeated ms s inside h = scope_sought (Object r) r ms of_role (unrepeated t clean (Object r) (object ms) repeated refl inside)
-  object_sought (Member kind.Label required) repeated ms s inside h = scope_sought (Member kind.Label required) role.Label ms of_label (unrepeated t clean (Member kind.Label required) (object ms) repeated refl inside)
+  object_sought (Member kind.Label required) repeated ms s inside h =
+      scope_sought (Member kind.Label required) role.Label ms of_label (unrepeated t clean (Member kind.Label required) (object ms) repeated refl inside)
   object_sought Carried repeated ms s inside h = record { each = sought_carried }
   object_sought (Member kind.Outside required) repeated ms s inside h = let x : true ≡ false = h.none reason.OutsideProfile in cc
   object_sought (Member kind.StrangeReference required) repeated ms s inside h = let x : true ≡ false = h.none reason.UnknownReference in cc
@@ -246,7 +268,8 @@ module _ (t : Data) (clean : NoneOf (ShapeFault t)) where
   member_asked : (w : Want) (repeated : Bool) (ms : Members) → Within t (asked_with w repeated (object ms)) → EachMember (scope_inside w (object ms)) ms
   member_asked w repeated ms inside n v d e there = Within-step t (asked_with w repeated (object ms)) (asked v d) (Name n) inside (rw (e, there))
 
-  items_of_want : (w : Want) (repeated : Bool) (ds : Items) (o : Option Want) → entry_want w ≡ o → is_sought w ≡ true → IsRight w repeated (array ds) → IfSome o (λ v. AreItemsInOrder v ds)
+  items_of_want : (w : Want) (repeated : Bool) (ds : Items) (o : Option Want) → entry_want w ≡ o → is_sought w ≡ true → IsRight w repeated (array ds)
+      → IfSome o (λ v. AreItemsInOrder v ds)
       → ((v : Want) → entry_want w ≡ Some v → is_sought v ≡ true → AreItemsInOrder v ds → ItemsSound v ds)
       → (items_have_float ds ≡ false) × (HaveNumbers ds → AreTrees ds) × (IfSome o (λ v. AreItemsKnown IsAskedInRange v ds) → ItemsHaveFittingNumbers ds)
   items_of_want w repeated ds None e s h order each =
@@ -260,10 +283,12 @@ module _ (t : Data) (clean : NoneOf (ShapeFault t)) where
         let h = right w repeated (number n) inside in
         record { whole = number_whole w repeated n s h; tree = λ k. k; fits = λ k. fitting_number w repeated n s h k }
     sound_at w repeated (array ds) s order inside =
-        let r = items_of_want w repeated ds (entry_want w) refl s (right w repeated (array ds) inside) order (λ v e q o. items_sound v ds q o (entry_within w v repeated ds e inside)) in
+        let r = items_of_want w repeated ds (entry_want w) refl s (right w repeated (array ds) inside) order
+        (λ v e q o. items_sound v ds q o (entry_within w v repeated ds e inside)) in
         record { whole = r.0; tree = r.1; fits = λ k. r.2 k.1 }
     sound_at w repeated (object ms) s order inside =
-        let r = members_sound (scope_inside w (object ms)) ms (object_sought w repeated ms s inside (right w repeated (object ms) inside)) order.0 order.1 (member_asked w repeated ms inside) in
+        let r = members_sound (scope_inside w (object ms)) ms (object_sought w repeated ms s inside (right w repeated (object ms) inside)) order.0 order.1
+        (member_asked w repeated ms inside) in
         record { whole = r.whole; tree = r.trees; fits = λ k. r.fits k.1 }
     sound_at w repeated e s order inside = record { whole = refl; tree = λ k. tt; fits = λ k. tt }
 
@@ -279,13 +304,16 @@ module _ (t : Data) (clean : NoneOf (ShapeFault t)) where
           fits = λ k. (first.fits k.0, rest.fits k.1);
         }
 
-    members_sound : (s : Scope) (ms : Members) → AllSought s → IsStrictlySortedBy text_cmp (names ms) → AreMembersInOrder s ms → EachMember s ms → MembersSound s ms
+    members_sound : (s : Scope) (ms : Members) → AllSought s → IsStrictlySortedBy text_cmp (names ms) → AreMembersInOrder s ms
+        → EachMember s ms → MembersSound s ms
     members_sound s no_members all rising order each = record { whole = refl; trees = λ k. tt; fits = λ k. tt }
     members_sound s (member k d ms) all rising order each =
         let sought = all.each k in
-        let first = sound_at sought.want false d sought.sought (subst (λ o. IfSome o (λ v. IsInOrder v d)) sought.is order.0) (each k sought.want d sought.is (get_member-first k d ms)) in
+        let first = sound_at sought.want false d sought.sought (subst (λ o. IfSome o (λ v. IsInOrder v d)) sought.is order.0)
+        (each k sought.want d sought.is (get_member-first k d ms)) in
         let rest = members_sound s ms all (names_after k ms rising) order.1
-        (λ n v e h there. each n v e h (get_member-later n k d e ms (found_all (λ n. slice_cmp nat_cmp k n ≡ Less) n e ms there (names_above k ms rising)) there)) in
+        (λ n v e h there. each n v e h
+        (get_member-later n k d e ms (found_all (λ n. slice_cmp nat_cmp k n ≡ Less) n e ms there (names_above k ms rising)) there)) in
         record {
           whole = or_from (has_float d) (members_have_float ms) first.whole rest.whole;
           trees = λ h. (before_first k ms rising, first.tree h.0, rest.trees h.1);
@@ -298,7 +326,8 @@ module _ (t : Data) (clean : NoneOf (ShapeFault t)) where
   pub no_fraction : IsInOrder (Object Report) t → has_float t ≡ false
   no_fraction order = (report_sound order).whole
 
-pub shaped_by : (v : Value) (faults : List Fault) → ListsAll (ShapeFault (view v)) faults → IsInOrder (Object Report) (view v) → IsKnown IsAskedInRange (Object Report) (view v) → IsShallow (view v) → length faults ≡ 0 → IsShaped v
+pub shaped_by : (v : Value) (faults : List Fault) → ListsAll (ShapeFault (view v)) faults → IsInOrder (Object Report) (view v)
+    → IsKnown IsAskedInRange (Object Report) (view v) → IsShallow (view v) → length faults ≡ 0 → IsShaped v
 shaped_by v faults all order range shallow empty =
     let none = no_fault_from_empty (view v) faults all empty in
     let sound = report_sound (view v) none order in

@@ -1,5 +1,15 @@
 -- What stands at the places of a report whose shape has no fault: members, entries, objects and their kinds.
-use Rattle.erd_check.proofs.Common.{◌≡◌, ℕ, zero, suc, true, List, [], Some, Option, refl, ap, subst, ap₂, inl, inr, ⊎_elim, option_map_or, Data, string, array, object, Items, no_items, item, Members, get_item, is_text, is_array, is_object, IsTree, AreTrees, list_of_items, entries_of, ◌≤◌, None, Ordering, Less, Equal, Greater, sym, ◌∙◌, arith, tied_itself, nat_list_cmp_total, exact_bytes, match_ordering, ordering_reverse, no_members, member, depth, members_depth, get_member, text_cmp, IsBeforeFirst, AreMembers, Bool, false, not, ◌&&◌, ◌∷◌, ◌++◌, is_none, IsSomeAnd, IsTrue, codes, option_map, option_and_then, bytes_eq, append_assoc, not-false, and_from, false_from_ne_true, list_any, get, text_of_class, role_of_class, class_in_role, Class, Role, role, Reason, reason, kind, Step, At, Name, has_wanted_kind, names_wanted, is_reference, is_shape_fault, ShapeFault, NoneOf, class_of_object, scope_inside, member_want, want_of_name, entry_want, is_compared_set, Asked, asked, is_repeated, asked_inside, asked_from, asked_at, Want, ClassText, Member, Object, cond, unwrap_or, and_parts, list_all, Row, rows_of_class, kind_in_rows, is_reference_name, kind_of_identity, kind_of_unlisted, kind_of_member, is_required, class, MemberKind, want_of_kind, is_report_class, cases_Bool, Family, is_empty_array}
+use Rattle.erd_check.proofs.Common.{◌≡◌, ℕ, zero, suc, true, List, [], Some, Option, refl, ap, subst, ap₂, inl, inr, ⊎_elim, option_map_or, Data, string, array}
+use Rattle.erd_check.proofs.Common.{object, Items, no_items, item, Members, get_item, is_text, is_array, is_object, IsTree, AreTrees, list_of_items, entries_of}
+use Rattle.erd_check.proofs.Common.{◌≤◌, None, Ordering, Less, Equal, Greater, sym, ◌∙◌, arith, tied_itself, nat_list_cmp_total, exact_bytes, match_ordering}
+use Rattle.erd_check.proofs.Common.{ordering_reverse, no_members, member, depth, members_depth, get_member, text_cmp, IsBeforeFirst, AreMembers, Bool, false}
+use Rattle.erd_check.proofs.Common.{not, ◌&&◌, ◌∷◌, ◌++◌, is_none, IsSomeAnd, IsTrue, codes, option_map, option_and_then, bytes_eq, append_assoc, not-false}
+use Rattle.erd_check.proofs.Common.{and_from, false_from_ne_true, list_any, get, text_of_class, role_of_class, class_in_role, Class, Role, role, Reason, reason}
+use Rattle.erd_check.proofs.Common.{kind, Step, At, Name, has_wanted_kind, names_wanted, is_reference, is_shape_fault, ShapeFault, NoneOf, class_of_object}
+use Rattle.erd_check.proofs.Common.{scope_inside, member_want, want_of_name, entry_want, is_compared_set, Asked, asked, is_repeated, asked_inside, asked_from}
+use Rattle.erd_check.proofs.Common.{asked_at, Want, ClassText, Member, Object, cond, unwrap_or, and_parts, list_all, Row, rows_of_class, kind_in_rows}
+use Rattle.erd_check.proofs.Common.{is_reference_name, kind_of_identity, kind_of_unlisted, kind_of_member, is_required, class, MemberKind, want_of_kind}
+use Rattle.erd_check.proofs.Common.{is_report_class, cases_Bool, Family, is_empty_array}
 use Rattle.std.proofs.lemmas.Option.{same_Some}
 use Rattle.erd_tables.proofs.Roles.{class_in_role_named}
 use Rattle.erd_check.proofs.Exact.{text_exact}
@@ -23,7 +33,8 @@ array_from _ e = cc
 
 pub list_of_items_exact : (ds es : Items) → list_of_items ds ≡ list_of_items es → ds ≡ es
 list_of_items_exact no_items no_items e = refl
-list_of_items_exact (item d ds) (item f es) e = let h : list_of_items ds ≡ list_of_items es = cc in let g : d ≡ f = cc in ap₂ item g (list_of_items_exact ds es h)
+list_of_items_exact (item d ds) (item f es) e = let h : list_of_items ds ≡ list_of_items es = cc in let g : d ≡ f =
+    cc in ap₂ item g (list_of_items_exact ds es h)
 list_of_items_exact ds es e = cc
 
 pub list_of_items-place : (ds : Items) (d : Data) → In d (list_of_items ds) → (i : ℕ) × (get_item i ds ≡ Some d)
@@ -61,31 +72,36 @@ get_member-later n k d e ms less h =
     rw down h
 
 -- what is found among members is the value of the first, or of a later one
-found_cases_at : {G : Type 0} (n k : List ℕ) (d e : Data) (ms : Members) (o : Ordering) → text_cmp n k ≡ o → match_ordering o (get_member n ms) (Some e) (get_member n ms) ≡ Some d
-    → (n ≡ k → e ≡ d → G) → (get_member n ms ≡ Some d → G) → G
+found_cases_at : {G : Type 0} (n k : List ℕ) (d e : Data) (ms : Members) (o : Ordering) → text_cmp n k ≡ o → match_ordering o (get_member n ms) (Some e)
+    (get_member n ms) ≡ Some d → (n ≡ k → e ≡ d → G) → (get_member n ms ≡ Some d → G) → G
 found_cases_at n k d e ms Equal is found first later = first (exact_bytes n k is) (same_Some e d found)
 found_cases_at n k d e ms x is found first later = later found
 
-pub found_cases : {G : Type 0} (n k : List ℕ) (d e : Data) (ms : Members) → get_member n (member k e ms) ≡ Some d → (n ≡ k → e ≡ d → G) → (get_member n ms ≡ Some d → G) → G
+pub found_cases : {G : Type 0} (n k : List ℕ) (d e : Data) (ms : Members) → get_member n (member k e ms) ≡ Some d → (n ≡ k → e ≡ d → G)
+    → (get_member n ms ≡ Some d → G) → G
 found_cases n k d e ms found first later = found_cases_at n k d e ms (text_cmp n k) refl found first later
 
 -- the rest of two lists of members have the same under each name
-get_member-rest_at : (o : Ordering) (q k : List ℕ) (d : Data) (ms ns : Members) → text_cmp q k ≡ o → AreMembers ms → AreMembers ns → IsBeforeFirst k ms → IsBeforeFirst k ns
-    → match_ordering o (get_member q ms) (Some d) (get_member q ms) ≡ match_ordering o (get_member q ns) (Some d) (get_member q ns) → get_member q ms ≡ get_member q ns
+get_member-rest_at : (o : Ordering) (q k : List ℕ) (d : Data) (ms ns : Members) → text_cmp q k ≡ o → AreMembers ms → AreMembers ns
+    → IsBeforeFirst k ms → IsBeforeFirst k ns
+    → match_ordering o (get_member q ms) (Some d) (get_member q ms) ≡ match_ordering o (get_member q ns) (Some d) (get_member q ns)
+    → get_member q ms ≡ get_member q ns
 get_member-rest_at Equal q k d ms ns is ms_rise ns_rise ms_below ns_below same =
     let e : q ≡ k = exact_bytes q k is in
     rw e (get_member-before k ms ms_rise ms_below ∙ sym (get_member-before k ns ns_rise ns_below))
 get_member-rest_at e q k d ms ns is ms_rise ns_rise ms_below ns_below same = same
 
 members_unique_at : (o : Ordering) (k l : List ℕ) (d e : Data) (ms ns : Members) → text_cmp k l ≡ o → AreMembers (member k d ms) → AreMembers (member l e ns)
-    → ((q : List ℕ) → get_member q (member k d ms) ≡ get_member q (member l e ns)) → (AreMembers ms → AreMembers ns → ((q : List ℕ) → get_member q ms ≡ get_member q ns) → ms ≡ ns)
-    → member k d ms ≡ member l e ns
+    → ((q : List ℕ) → get_member q (member k d ms) ≡ get_member q (member l e ns))
+    → (AreMembers ms → AreMembers ns → ((q : List ℕ) → get_member q ms ≡ get_member q ns) → ms ≡ ns) → member k d ms ≡ member l e ns
 members_unique_at Less k l d e ms ns is ms_rise ns_rise same rest =
     let h = sym (get_member-first k d ms) ∙ same k ∙ get_member-before k (member l e ns) ns_rise is in cc
 members_unique_at Equal k l d e ms ns is ms_rise ns_rise same rest =
     let names : k ≡ l = exact_bytes k l is in
-    let first : d ≡ e = let h : Some d ≡ Some e = sym (get_member-first k d ms) ∙ same k ∙ ap (λ (x : List ℕ). get_member x (member l e ns)) names ∙ get_member-first l e ns in cc in
-    let tail = λ (q : List ℕ). get_member-rest_at (text_cmp q k) q k d ms ns refl ms_rise.2 ns_rise.2 ms_rise.0 (rw names ns_rise.0) (same q ∙ rw (names, first)) in
+    let first : d ≡ e = let h : Some d ≡ Some e = sym (get_member-first k d ms) ∙ same k ∙ ap (λ (x : List ℕ). get_member x (member l e ns)) names
+    ∙ get_member-first l e ns in cc in
+    let tail = λ (q : List ℕ). get_member-rest_at (text_cmp q k) q k d ms ns refl ms_rise.2 ns_rise.2 ms_rise.0 (rw names ns_rise.0)
+    (same q ∙ rw (names, first)) in
     let later : ms ≡ ns = rest ms_rise.2 ns_rise.2 tail in
     cc
 members_unique_at Greater k l d e ms ns is ms_rise ns_rise same rest =
@@ -128,12 +144,15 @@ asked_from-step a (r ∷ p) s = onward (asked_inside a.want a.value r) (λ b. as
     onward None h = refl
     onward (Some b) h = h b
 
-pub asked_at-step : (t : Data) (p : List Step) (a b : Asked) (s : Step) → asked_at t p ≡ Some a → asked_inside a.want a.value s ≡ Some b → asked_at t (p ++ s ∷ []) ≡ Some b
+pub asked_at-step : (t : Data) (p : List Step) (a b : Asked) (s : Step) → asked_at t p ≡ Some a → asked_inside a.want a.value s ≡ Some b
+    → asked_at t (p ++ s ∷ []) ≡ Some b
 asked_at-step t p a b s is e = asked_from-step (asked (Object role.Report) t) p s ∙ ap (option_and_then (λ x. asked_inside x.want x.value s)) is ∙ e
 
 -- two steps further in
-pub asked_at-steps : (t : Data) (p : List Step) (a b c : Asked) (r s : Step) → asked_at t p ≡ Some a → asked_inside a.want a.value r ≡ Some b → asked_inside b.want b.value s ≡ Some c → asked_at t (p ++ r ∷ s ∷ []) ≡ Some c
-asked_at-steps t p a b c r s is e f = subst (λ q. asked_at t q ≡ Some c) (append_assoc p (r ∷ []) (s ∷ [])) (asked_at-step t (p ++ r ∷ []) b c s (asked_at-step t p a b r is e) f)
+pub asked_at-steps : (t : Data) (p : List Step) (a b c : Asked) (r s : Step) → asked_at t p ≡ Some a → asked_inside a.want a.value r ≡ Some b
+    → asked_inside b.want b.value s ≡ Some c → asked_at t (p ++ r ∷ s ∷ []) ≡ Some c
+asked_at-steps t p a b c r s is e f = subst (λ q. asked_at t q ≡ Some c) (append_assoc p (r ∷ []) (s ∷ []))
+    (asked_at-step t (p ++ r ∷ []) b c s (asked_at-step t p a b r is e) f)
 
 -- one step further in
 pub Within-step : (t : Data) (a b : Asked) (s : Step) → Within t a → asked_inside a.want a.value s ≡ Some b → Within t b
@@ -160,16 +179,18 @@ pub data AsksObject : Want → Role → Type 0 where
   of_role : {r : Role} → AsksObject (Object r) r
   of_label : {required : Bool} → AsksObject (Member kind.Label required) role.Label
 
-must_type : (w : Want) (r : Role) (ms : Members) → AsksObject w r → get (codes "@type") (object ms) ≡ None → list_any (bytes_eq (codes "@type")) (names_wanted (scope_inside w (object ms))) ≡ true
+must_type : (w : Want) (r : Role) (ms : Members) → AsksObject w r → get (codes "@type") (object ms) ≡ None → list_any (bytes_eq (codes "@type"))
+    (names_wanted (scope_inside w (object ms))) ≡ true
 must_type w r ms of_role e = rw e
 must_type w r ms of_label e = rw e
 
-type_asked : (w : Want) (r : Role) (ms : Members) (v : Data) → AsksObject w r → get (codes "@type") (object ms) ≡ Some v → asked_inside w (object ms) (Name (codes "@type")) ≡ Some (asked (ClassText r) v)
+type_asked : (w : Want) (r : Role) (ms : Members) (v : Data) → AsksObject w r → get (codes "@type") (object ms) ≡ Some v
+    → asked_inside w (object ms) (Name (codes "@type")) ≡ Some (asked (ClassText r) v)
 type_asked w r ms v of_role e = rw e
 type_asked w r ms v of_label e = rw e
 
-pub asked_inside_object : (w : Want) (r : Role) (ms : Members) (c : Class) (name : List ℕ) (v : Data) → AsksObject w r → class_of_object r (object ms) ≡ Some c → bytes_eq name (codes "@type") ≡ false
-    → get_member name ms ≡ Some v → asked_inside w (object ms) (Name name) ≡ Some (asked (member_want c name) v)
+pub asked_inside_object : (w : Want) (r : Role) (ms : Members) (c : Class) (name : List ℕ) (v : Data) → AsksObject w r → class_of_object r (object ms) ≡ Some c
+    → bytes_eq name (codes "@type") ≡ false → get_member name ms ≡ Some v → asked_inside w (object ms) (Name name) ≡ Some (asked (member_want c name) v)
 asked_inside_object w r ms c name v of_role among other e = rw (other, among, e)
 asked_inside_object w r ms c name v of_label among other e = rw (other, among, e)
 
@@ -181,7 +202,8 @@ module _ (t : Data) (clean : NoneOf (ShapeFault t)) where
   wanted_within a w = not-false (has_wanted_kind a.want a.value) (faultless a reason.WrongKind w)
 
   -- an object has each member that it must have
-  pub lacks_none : (a : Asked) (name : List ℕ) → Within t a → list_any (bytes_eq name) (names_wanted (scope_inside a.want a.value)) ≡ true → get name a.value ≡ None → ⊥
+  pub lacks_none : (a : Asked) (name : List ℕ) → Within t a → list_any (bytes_eq name) (names_wanted (scope_inside a.want a.value)) ≡ true
+      → get name a.value ≡ None → ⊥
   lacks_none a name w needed e = let h : true ≡ false = sym (and_from _ _ needed (ap is_none e)) ∙ faultless a (reason.MissingMember name) w in cc
 
   -- no entry of a set of JSON values repeats an earlier one
@@ -196,7 +218,8 @@ module _ (t : Data) (clean : NoneOf (ShapeFault t)) where
       let w' : Within t (asked (ClassText r) (string s)) = subst (λ x. Within t (asked (ClassText r) x)) text.1 w in
       at s (e ∙ ap Some text.1) (class_in_role r s) refl (faultless (asked (ClassText r) (string s)) reason.WrongClassText w')
     where
-      at : (s : List ℕ) → get (codes "@type") (object ms) ≡ Some (string s) → (o : Option Class) → class_in_role r s ≡ o → is_none (class_in_role r s) ≡ false → Classed r (object ms)
+      at : (s : List ℕ) → get (codes "@type") (object ms) ≡ Some (string s) → (o : Option Class) → class_in_role r s ≡ o → is_none (class_in_role r s) ≡ false
+          → Classed r (object ms)
       at s stands None is right = let x : true ≡ false = sym (ap is_none is) ∙ right in cc
       at s stands (Some c) is right =
           let named = class_in_role_named r s c is in
@@ -214,7 +237,8 @@ module _ (t : Data) (clean : NoneOf (ShapeFault t)) where
     where
       at : (o : Option Data) → get (codes "@type") (object ms) ≡ o → Classed r (object ms)
       at None e = absurd (lacks_none (asked w (object ms)) (codes "@type") inside (must_type w r ms h e) e)
-      at (Some v) e = classed_text r ms v e (Within-step t (asked w (object ms)) (asked (ClassText r) v) (Name (codes "@type")) inside (type_asked w r ms v h e))
+      at (Some v) e =
+          classed_text r ms v e (Within-step t (asked w (object ms)) (asked (ClassText r) v) (Name (codes "@type")) inside (type_asked w r ms v h e))
 
   pub classed : (w : Want) (r : Role) (d : Data) → AsksObject w r → is_object d ≡ true → Within t (asked w d) → Classed r d
   classed w r d h e inside =
@@ -222,9 +246,10 @@ module _ (t : Data) (clean : NoneOf (ShapeFault t)) where
       subst (Classed r) (sym m.1) (classed_members w r m.0 h (subst (λ x. Within t (asked w x)) m.1 inside))
 
   -- a member other than `@type`, in an object of a known class
-  pub member_within : (w : Want) (r : Role) (ms : Members) (c : Class) (name : List ℕ) (v : Data) → AsksObject w r → class_of_object r (object ms) ≡ Some c → bytes_eq name (codes "@type") ≡ false
-      → Within t (asked w (object ms)) → get_member name ms ≡ Some v → Within t (asked (member_want c name) v)
-  member_within w r ms c name v h among other inside e = Within-step t (asked w (object ms)) (asked (member_want c name) v) (Name name) inside (asked_inside_object w r ms c name v h among other e)
+  pub member_within : (w : Want) (r : Role) (ms : Members) (c : Class) (name : List ℕ) (v : Data) → AsksObject w r → class_of_object r (object ms) ≡ Some c
+      → bytes_eq name (codes "@type") ≡ false → Within t (asked w (object ms)) → get_member name ms ≡ Some v → Within t (asked (member_want c name) v)
+  member_within w r ms c name v h among other inside e = Within-step t (asked w (object ms)) (asked (member_want c name) v) (Name name) inside
+      (asked_inside_object w r ms c name v h among other e)
 
 -- ---- what holds of a value and of what stands in it
 
@@ -234,16 +259,18 @@ pub record IsHandedOn (P : Data → Type 0) : Type 0 where
   pub of_array : (i : ℕ) (v : Data) (ds : Items) → P (array ds) → get_item i ds ≡ Some v → P v
 
 module _ (P : Data → Type 0) (on : IsHandedOn P) where
-  asked-holds : (make : Want → Data → Asked) → ((v : Want) (d : Data) → (make v d).value ≡ d) → (w : Option Want) (o : Option Data) (a : Asked) → ((d : Data) → o ≡ Some d → P d)
-      → option_and_then (λ v. option_map (make v) o) w ≡ Some a → P a.value
+  asked-holds : (make : Want → Data → Asked) → ((v : Want) (d : Data) → (make v d).value ≡ d) → (w : Option Want) (o : Option Data) (a : Asked)
+      → ((d : Data) → o ≡ Some d → P d) → option_and_then (λ v. option_map (make v) o) w ≡ Some a → P a.value
   asked-holds make value None o a holds e = cc
   asked-holds make value (Some w) None a holds e = cc
   asked-holds make value (Some w) (Some d) a holds e = let h : make w d ≡ a = cc in subst P (sym (value w d) ∙ ap (λ (x : Asked). x.value) h) (holds d refl)
 
   asked_inside-holds : (w : Want) (d : Data) (s : Step) (a : Asked) → P d → asked_inside w d s ≡ Some a → P a.value
-  asked_inside-holds w (object ms) (Name n) a holds e = asked-holds asked (λ v d. refl) (want_of_name (scope_inside w (object ms)) n) (get_member n ms) a (λ v h. on.of_object n v ms holds h) e
+  asked_inside-holds w (object ms) (Name n) a holds e = asked-holds asked (λ v d. refl) (want_of_name (scope_inside w (object ms)) n) (get_member n ms) a
+      (λ v h. on.of_object n v ms holds h) e
   asked_inside-holds w (array ds) (At i) a holds e =
-      asked-holds (λ v d. record { want = v; value = d; repeated = is_compared_set w && is_repeated ds i d }) (λ v d. refl) (entry_want w) (get_item i ds) a (λ v h. on.of_array i v ds holds h) e
+      asked-holds (λ v d. record { want = v; value = d; repeated = is_compared_set w && is_repeated ds i d }) (λ v d. refl) (entry_want w) (get_item i ds) a
+      (λ v h. on.of_array i v ds holds h) e
   asked_inside-holds w _ _ a holds e = cc
 
   asked_from-holds : (b : Asked) (p : List Step) (a : Asked) → P b.value → asked_from b p ≡ Some a → P a.value
@@ -275,21 +302,23 @@ kind_of_unlisted_has P c name other id reference carried =
     (cond_keeps P (bytes_eq name (codes "@id")) (kind_of_identity c) _ id
     (cond_keeps P (is_reference_name name) kind.StrangeReference kind.Carried reference carried))
 
-kind_or : (Q : Row → Bool) (P : MemberKind → Bool) (other : MemberKind) (name : List ℕ) (ms : List Row) → list_all Q ms ≡ true → ((m : Row) → Q m ≡ true → bytes_eq name m.name ≡ true → P m.kind ≡ true) → P other ≡ true
-    → P (unwrap_or (kind_in_rows ms name) other) ≡ true
+kind_or : (Q : Row → Bool) (P : MemberKind → Bool) (other : MemberKind) (name : List ℕ) (ms : List Row) → list_all Q ms ≡ true
+    → ((m : Row) → Q m ≡ true → bytes_eq name m.name ≡ true → P m.kind ≡ true) → P other ≡ true → P (unwrap_or (kind_in_rows ms name) other) ≡ true
 kind_or Q P other name [] h each k = k
 kind_or Q P other name (m ∷ ms) h each k =
     let both = and_parts (Q m) _ h in
     elim (cases_Bool (bytes_eq name m.name)) [ inl is ↦ rw is (each m both.0 is) | inr is ↦ rw is (kind_or Q P other name ms both.1 each k) ]
 
 -- what holds of each kind in a class's rows, and of the kinds of unlisted names, holds of a member's kind
-pub kind_of_class : (P : MemberKind → Bool) (c : Class) (name : List ℕ) → bytes_eq name (codes "@type") ≡ false → list_all (λ m. P m.kind) (rows_of_class c) ≡ true
+pub kind_of_class : (P : MemberKind → Bool) (c : Class) (name : List ℕ) → bytes_eq name (codes "@type") ≡ false
+    → list_all (λ m. P m.kind) (rows_of_class c) ≡ true
     → P (kind_of_identity c) ≡ true → P kind.StrangeReference ≡ true → P kind.Carried ≡ true → P (kind_of_member c name) ≡ true
 kind_of_class P c name other lines id reference carried =
     kind_or (λ m. P m.kind) P (kind_of_unlisted c name) name (rows_of_class c) lines (λ m h e. h) (kind_of_unlisted_has P c name other id reference carried)
 
 -- what each row of a class that has the name says, and the kinds of unlisted names, for a name other than `@type` and `@id`
-pub kind_of_name : (Q : Row → Bool) (P : MemberKind → Bool) (c : Class) (name : List ℕ) → bytes_eq name (codes "@type") ≡ false → bytes_eq name (codes "@id") ≡ false
+pub kind_of_name : (Q : Row → Bool) (P : MemberKind → Bool) (c : Class) (name : List ℕ) → bytes_eq name (codes "@type") ≡ false
+    → bytes_eq name (codes "@id") ≡ false
     → list_all Q (rows_of_class c) ≡ true → ((m : Row) → Q m ≡ true → bytes_eq name m.name ≡ true → P m.kind ≡ true)
     → P kind.StrangeReference ≡ true → P kind.Carried ≡ true → P (kind_of_member c name) ≡ true
 kind_of_name Q P c name no_type no_id lines each reference carried =
@@ -307,7 +336,8 @@ abbrev pub is_word : MemberKind → Bool
 is_word kind.Word = true
 is_word k = false
 
-status_word : (c : Class) (name : List ℕ) (k : MemberKind) → kind_of_member c name ≡ k → is_word k ≡ false → (is_report_class c && bytes_eq name (codes "Status")) ≡ true → ⊥
+status_word : (c : Class) (name : List ℕ) (k : MemberKind) → kind_of_member c name ≡ k → is_word k ≡ false
+    → (is_report_class c && bytes_eq name (codes "Status")) ≡ true → ⊥
 status_word class.ElectionReport name k e h is =
     let s : name ≡ codes "Status" = text_exact name (codes "Status") is in
     let w : kind.Word ≡ k = sym (ap (kind_of_member class.ElectionReport) s) ∙ e in
@@ -315,10 +345,13 @@ status_word class.ElectionReport name k e h is =
     cc
 status_word c name k e h is = cc
 
-pub want_by_kind : (c : Class) (name : List ℕ) (k : MemberKind) → kind_of_member c name ≡ k → is_word k ≡ false → member_want c name ≡ want_of_kind k (is_required c name)
-want_by_kind c name k e h = elim (cases_Bool (is_report_class c && bytes_eq name (codes "Status"))) [ inl is ↦ absurd (status_word c name k e h is) | inr is ↦ rw (is, e) ]
+pub want_by_kind : (c : Class) (name : List ℕ) (k : MemberKind) → kind_of_member c name ≡ k → is_word k ≡ false → member_want c name
+    ≡ want_of_kind k (is_required c name)
+want_by_kind c name k e h = elim (cases_Bool (is_report_class c && bytes_eq name (codes "Status")))
+    [ inl is ↦ absurd (status_word c name k e h is) | inr is ↦ rw (is, e) ]
 
-pub want_unless_status : (c : Class) (name : List ℕ) → (is_report_class c && bytes_eq name (codes "Status")) ≡ false → member_want c name ≡ want_of_kind (kind_of_member c name) (is_required c name)
+pub want_unless_status : (c : Class) (name : List ℕ) → (is_report_class c && bytes_eq name (codes "Status")) ≡ false → member_want c name
+    ≡ want_of_kind (kind_of_member c name) (is_required c name)
 want_unless_status c name is = rw is
 
 -- ---- the objects of a report without a fault of shape, and their keyed arrays
@@ -355,7 +388,8 @@ object_in t clean r d w =
     }
 
 -- an object whose role one class alone has
-pub object_at : (t : Data) → NoneOf (ShapeFault t) → (r : Role) (c : Class) → ((e : Class) → role_of_class e ≡ r → e ≡ c) → (d : Data) → Within t (asked (Object r) d) → (ms : Members) × (d ≡ object ms) × ObjectAt t (Object r) r c ms
+pub object_at : (t : Data) → NoneOf (ShapeFault t) → (r : Role) (c : Class) → ((e : Class) → role_of_class e ≡ r → e ≡ c) → (d : Data)
+    → Within t (asked (Object r) d) → (ms : Members) × (d ≡ object ms) × ObjectAt t (Object r) r c ms
 object_at t clean r c only d w =
     let o : ObjectIn t r d = object_in t clean r d w in
     (o.ms, o.is_object, subst (λ e. ObjectAt t (Object r) r e o.ms) (only o.class o.role) o.at)
@@ -379,8 +413,10 @@ pub data MayBeArray (P : Items → Type 0) : Option Data → Type 0 where
   is_filled_array : {ds : Items} → P ds → MayBeArray P (Some (array ds))
 
 -- a keyed array of an object
-pub keyed_list : (t : Data) → NoneOf (ShapeFault t) → (w : Want) (q : Role) (c : Class) (ms : Members) → ObjectAt t w q c ms → (f : Family) (name : List ℕ) → bytes_eq name (codes "@type") ≡ false
-    → kind_of_member c name ≡ kind.Keyed f → (o : Option Data) → get_member name ms ≡ o → MayBeArray (λ ds. Within t (asked (Member (kind.Keyed f) false) (array ds))) o
+pub keyed_list : (t : Data) → NoneOf (ShapeFault t) → (w : Want) (q : Role) (c : Class) (ms : Members) → ObjectAt t w q c ms → (f : Family) (name : List ℕ)
+    → bytes_eq name (codes "@type") ≡ false
+    → kind_of_member c name ≡ kind.Keyed f → (o : Option Data) → get_member name ms ≡ o
+    → MayBeArray (λ ds. Within t (asked (Member (kind.Keyed f) false) (array ds))) o
 keyed_list t clean w q c ms a f name other keyed None e = is_absent
 keyed_list t clean w q c ms a f name other keyed (Some v) e =
     let inside : Within t (asked (Member (kind.Keyed f) false) v) =

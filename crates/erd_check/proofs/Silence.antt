@@ -1,5 +1,8 @@
 -- Values of which a visitor has nothing to tell, and what is known of each value alone.
-use Rattle.erd_check.proofs.Common.{◌≡◌, ℕ, ◌&&◌, ◌++◌, Bool, false, List, [], ◌∷◌, length, Some, None, Option, IfSome, refl, ap, ap₂, list_any, option_map_or, Data, array, object, Items, no_items, item, Members, no_members, member, Fault, Step, At, Name, is_same_json, faults_of, Telling, told_at, told_of_items, told_of_members, IsKnown, AreItemsKnown, AreMembersKnown, IsSilentMember, scope_inside, want_of_name, entry_want, is_compared_set, Scope, Want}
+use Rattle.erd_check.proofs.Common.{◌≡◌, ℕ, ◌&&◌, ◌++◌, Bool, false, List, [], ◌∷◌, length, Some, None, Option, IfSome, refl, ap, ap₂, list_any, option_map_or}
+use Rattle.erd_check.proofs.Common.{Data, array, object, Items, no_items, item, Members, no_members, member, Fault, Step, At, Name, is_same_json, faults_of}
+use Rattle.erd_check.proofs.Common.{Telling, told_at, told_of_items, told_of_members, IsKnown, AreItemsKnown, AreMembersKnown, IsSilentMember, scope_inside}
+use Rattle.erd_check.proofs.Common.{want_of_name, entry_want, is_compared_set, Scope, Want}
 use Rattle.erd_check.proofs.Deciding.{if_some}
 
 -- nothing is told where this sort of thing is asked, and inside such a value nothing else is asked
@@ -25,12 +28,15 @@ module _ (tells : Telling) (Sort : Want → Type 0) (quiet : IsQuiet tells Sort)
         ap₂ ◌++◌ (here outer p w repeated (object ms) h) (silent_members owner (object ms) p (scope_inside w (object ms)) ms (quiet.of_members w ms h))
     silent_at outer owner p w repeated d h = here outer p w repeated d h
 
-    silent_items : (outer owner : Data) (p : List Step) (w : Want) (is_set : Bool) (earlier : List Data) (ds : Items) → Sort w → told_of_items tells outer owner p w is_set earlier ds ≡ []
+    silent_items : (outer owner : Data) (p : List Step) (w : Want) (is_set : Bool) (earlier : List Data) (ds : Items) → Sort w
+        → told_of_items tells outer owner p w is_set earlier ds ≡ []
     silent_items outer owner p w is_set earlier no_items h = refl
     silent_items outer owner p w is_set earlier (item d ds) h =
-        ap₂ ◌++◌ (silent_at outer owner (p ++ At (length earlier) ∷ []) w (is_set && list_any (is_same_json d) earlier) d h) (silent_items outer owner p w is_set (earlier ++ d ∷ []) ds h)
+        ap₂ ◌++◌ (silent_at outer owner (p ++ At (length earlier) ∷ []) w (is_set && list_any (is_same_json d) earlier) d h)
+        (silent_items outer owner p w is_set (earlier ++ d ∷ []) ds h)
 
-    silent_members : (outer owner : Data) (p : List Step) (s : Scope) (ms : Members) → ((name : List ℕ) (v : Want) → want_of_name s name ≡ Some v → Sort v) → told_of_members tells outer owner p s ms ≡ []
+    silent_members : (outer owner : Data) (p : List Step) (s : Scope) (ms : Members) → ((name : List ℕ) (v : Want) → want_of_name s name ≡ Some v → Sort v)
+        → told_of_members tells outer owner p s ms ≡ []
     silent_members outer owner p s no_members h = refl
     silent_members outer owner p s (member k d ms) h =
         ap₂ ◌++◌ (none_at _ (want_of_name s k) (λ v e. silent_at outer owner (p ++ Name k ∷ []) v false d (h k v e))) (silent_members outer owner p s ms h)

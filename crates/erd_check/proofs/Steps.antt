@@ -1,5 +1,6 @@
 -- The steps inside a value: the names of members, and the positions of entries.
-use Rattle.erd_check.proofs.Common.{◌≡◌, ℕ, suc, ◌+◌, ◌<◌, List, [], ◌∷◌, ◌++◌, length, Some, nat_cmp, is_eq, Less, Equal, sym, ap, ◌∙◌, subst, arith, length-append, bytes_eq-Decides, slice_cmp, AllByRecursion, Data, Members, no_members, member, get_member, names}
+use Rattle.erd_check.proofs.Common.{◌≡◌, ℕ, suc, ◌+◌, ◌<◌, List, [], ◌∷◌, ◌++◌, length, Some, nat_cmp, is_eq, Less, Equal, sym, ap, ◌∙◌, subst, arith}
+use Rattle.erd_check.proofs.Common.{length-append, bytes_eq-Decides, slice_cmp, AllByRecursion, Data, Members, no_members, member, get_member, names}
 use Rattle.std.proofs.lemmas.Map.Text.{is_eq-slice_cmp}
 use Rattle.erd_check.proofs.Shapes.{found_cases}
 

@@ -1,5 +1,7 @@
 -- A set of values: one value more, and the value that is tied with a given one.
-use Rattle.erd_check.proofs.Common.{◌≡◌, Bool, true, false, not, ◌||◌, List, [], ◌∷◌, ◌++◌, map, Some, None, find, is_eq, Ordering, Less, Equal, Greater, sym, refl, ap, ◌∙◌, true≢false, or_right, Equal-is, list_any, match_ordering, Data, view, is_same_json, StandsFor, json_cmp, inl, inr, false_from_ne_true, cases_Bool, arith}
+use Rattle.erd_check.proofs.Common.{◌≡◌, Bool, true, false, not, ◌||◌, List, [], ◌∷◌, ◌++◌, map, Some, None, find, is_eq, Ordering, Less, Equal, Greater, sym}
+use Rattle.erd_check.proofs.Common.{refl, ap, ◌∙◌, true≢false, or_right, Equal-is, list_any, match_ordering, Data, view, is_same_json, StandsFor, json_cmp, inl}
+use Rattle.erd_check.proofs.Common.{inr, false_from_ne_true, cases_Bool, arith}
 use Rattle.std.specs.BTreeSet.{insert_key}
 use Rattle.std.proofs.lemmas.List.Folds.{list_any-append}
 use Rattle.erd_check.specs.declared.ordered_value.OrderedValue.{OrderedValue}
@@ -21,29 +23,31 @@ or_exchanged a b c = grind arith
 absorbed : (a b c : Bool) → (b ≡ true → a ≡ true) → a || c ≡ b || (a || c)
 absorbed a b c h = grind arith
 
-put : (vs : List OrderedValue) (v : OrderedValue) (d : Data) → list_any (is_same_json d) (map data_of (insert_key value_cmp vs v)) ≡ is_same_json d (data_of v) || list_any (is_same_json d) (map data_of vs)
+put : (vs : List OrderedValue) (v : OrderedValue) (d : Data) → list_any (is_same_json d) (map data_of (insert_key value_cmp vs v)) ≡ is_same_json d (data_of v)
+    || list_any (is_same_json d) (map data_of vs)
 put [] v d = refl
 put (w ∷ vs) v d = at (value_cmp v w) refl (put vs v d)
   where
-    at : (o : Ordering) → value_cmp v w ≡ o → list_any (is_same_json d) (map data_of (insert_key value_cmp vs v)) ≡ is_same_json d (data_of v) || list_any (is_same_json d) (map data_of vs)
-        → list_any (is_same_json d) (map data_of (insert_key value_cmp (w ∷ vs) v)) ≡ is_same_json d (data_of v) || list_any (is_same_json d) (map data_of (w ∷ vs))
+    at : (o : Ordering) → value_cmp v w ≡ o → list_any (is_same_json d) (map data_of (insert_key value_cmp vs v)) ≡ is_same_json d (data_of v)
+        || list_any (is_same_json d) (map data_of vs) → list_any (is_same_json d) (map data_of (insert_key value_cmp (w ∷ vs) v)) ≡ is_same_json d (data_of v)
+        || list_any (is_same_json d) (map data_of (w ∷ vs))
     at Less is later = rw is refl
     at Equal is later =
         ap (λ o. list_any (is_same_json d) (map data_of (match_ordering o (v ∷ w ∷ vs) (w ∷ vs) (w ∷ insert_key value_cmp vs v)))) is
-        ∙ absorbed (is_same_json d (data_of w)) (is_same_json d (data_of v)) (list_any (is_same_json d) (map data_of vs)) (same_as_tied d (data_of v) (data_of w) is)
+        ∙ absorbed (is_same_json d (data_of w)) (is_same_json d (data_of v)) (list_any (is_same_json d) (map data_of vs))
+        (same_as_tied d (data_of v) (data_of w) is)
     at Greater is later =
-        rw is (ap (λ b. is_same_json d (data_of w) || b) later ∙ or_exchanged (is_same_json d (data_of w)) (is_same_json d (data_of v)) (list_any (is_same_json d) (map data_of vs)))
+        rw is (ap (λ b. is_same_json d (data_of w) || b) later ∙ or_exchanged (is_same_json d (data_of w)) (is_same_json d (data_of v))
+        (list_any (is_same_json d) (map data_of vs)))
 
 swapped : (a b : Bool) → a || b ≡ b || (a || false)
 swapped a b = grind arith
 
-pub one_more : (s n : ValueSet) (v : OrderedValue) (ds : List Data) → n.ordered.keys ≡ insert_key value_cmp s.ordered.keys v → StandsFor ds s → StandsFor (ds ++ data_of v ∷ []) n
+pub one_more : (s n : ValueSet) (v : OrderedValue) (ds : List Data) → n.ordered.keys ≡ insert_key value_cmp s.ordered.keys v → StandsFor ds s
+    → StandsFor (ds ++ data_of v ∷ []) n
 one_more s n v ds keys h d =
-    ap (λ vs. list_any (is_same_json d) (map data_of vs)) keys
-    ∙ (put s.ordered.keys v d
-    ∙ (ap (λ b. is_same_json d (data_of v) || b) (h d)
-    ∙ (swapped (is_same_json d (data_of v)) (list_any (is_same_json d) ds)
-    ∙ sym (list_any-append (is_same_json d) ds (data_of v ∷ [])))))
+    ap (λ vs. list_any (is_same_json d) (map data_of vs)) keys ∙ (put s.ordered.keys v d ∙ (ap (λ b. is_same_json d (data_of v) || b) (h d)
+    ∙ (swapped (is_same_json d (data_of v)) (list_any (is_same_json d) ds) ∙ sym (list_any-append (is_same_json d) ds (data_of v ∷ [])))))
 
 -- ---- the value that is tied with one
 
@@ -51,7 +55,8 @@ untied : (d e : Data) → is_eq (json_cmp d e) ≡ false → is_same_json d e �
 untied d e apart = false_from_ne_true (is_same_json d e) (λ is. true≢false (sym (ap is_eq (same_tied d e is)) ∙ apart))
 
 -- a value that is new is equal to none
-pub new_untied : (vs : List OrderedValue) (d : Data) → true ≡ not (list_any (λ v. is_eq (json_cmp d (data_of v))) vs) → list_any (is_same_json d) (map data_of vs) ≡ false
+pub new_untied : (vs : List OrderedValue) (d : Data) → true ≡ not (list_any (λ v. is_eq (json_cmp d (data_of v))) vs)
+    → list_any (is_same_json d) (map data_of vs) ≡ false
 new_untied [] d e = refl
 new_untied (w ∷ vs) d e = elim (cases_Bool (is_eq (json_cmp d (data_of w)))) [
   | inl is ↦ let clash : true ≡ false = rw is at e in cc
@@ -75,7 +80,8 @@ unequal [] d own = refl
 unequal (w ∷ vs) d own = rw (unequal_one d (data_of w) own) (unequal vs d own)
 
 -- a value that is equal to itself is equal to the one that it is tied with
-found : (vs : List OrderedValue) (d : Data) (w : OrderedValue) → is_same_json d d ≡ true → find (λ v. is_eq (json_cmp d (data_of v))) vs ≡ Some w → (list_any (is_same_json d) (map data_of vs) ≡ true) × (is_same_json d (data_of w) ≡ true)
+found : (vs : List OrderedValue) (d : Data) (w : OrderedValue) → is_same_json d d ≡ true → find (λ v. is_eq (json_cmp d (data_of v))) vs ≡ Some w
+    → (list_any (is_same_json d) (map data_of vs) ≡ true) × (is_same_json d (data_of w) ≡ true)
 found [] d w own e = cc
 found (x ∷ xs) d w own e = elim (cases_Bool (is_eq (json_cmp d (data_of x)))) [
   | inl is ↦
@@ -87,5 +93,11 @@ found (x ∷ xs) d w own e = elim (cases_Bool (is_eq (json_cmp d (data_of x)))) 
 ]
 
 -- one is
-pub one_tied : (vs : List OrderedValue) (d : Data) (w : OrderedValue) → find (λ v. is_eq (json_cmp d (data_of v))) vs ≡ Some w → list_any (is_same_json d) (map data_of vs) ≡ is_same_json d (data_of w)
-one_tied vs d w e = elim (cases_Bool (is_same_json d d)) [ inl own ↦ (let both = found vs d w own e in both.0 ∙ sym both.1) | inr own ↦ unequal vs d own ∙ sym (unequal_one d (data_of w) own) ]
+pub one_tied : (vs : List OrderedValue) (d : Data) (w : OrderedValue) → find (λ v. is_eq (json_cmp d (data_of v))) vs ≡ Some w
+    → list_any (is_same_json d) (map data_of vs) ≡ is_same_json d (data_of w)
+one_tied vs d w e =
+    elim (cases_Bool (is_same_json d d)) [
+      | inl own ↦ (let both = found vs d w own e in both.0 ∙ sym both.1)
+      | inr own ↦ unequal vs d own
+          ∙ sym (unequal_one d (data_of w) own)
+    ]

@@ -1,11 +1,19 @@
 -- Values in which every number is whole are equal to themselves as JSON.
-use Rattle.erd_check.proofs.Common.{◌≡◌, ℕ, zero, suc, Bool, true, false, not, ◌&&◌, ◌||◌, List, pos, Some, None, codes, bytes_eq, Ordering, Equal, sym, refl, ap, ◌∙◌, subst, not-true, and_parts, and_from, exact_bytes, list_all, Num, unsigned, negative, float, Data, null, boolean, number, string, array, object, Items, no_items, item, Members, no_members, member, get_member, get_item, get, text_of_class, role_of_class, rows_of_class, is_reference_name, kind_of_identity, kind_of_member, is_required, text_cmp, Class, Role, reason, MemberKind, kind, At, Name, is_not_whole, ShapeFault, NoneOf, IsTree, AreTrees, AreMembers, same_number, is_same_json, are_same_items, are_same_members, class_of_object, want_of_kind, is_report_class, carried_want, asked, Carried, Member, Object, inl, inr, cases_Bool}
+use Rattle.erd_check.proofs.Common.{◌≡◌, ℕ, zero, suc, Bool, true, false, not, ◌&&◌, ◌||◌, List, pos, Some, None, codes, bytes_eq, Ordering, Equal, sym, refl}
+use Rattle.erd_check.proofs.Common.{ap, ◌∙◌, subst, not-true, and_parts, and_from, exact_bytes, list_all, Num, unsigned, negative, float, Data, null, boolean}
+use Rattle.erd_check.proofs.Common.{number, string, array, object, Items, no_items, item, Members, no_members, member, get_member, get_item, get, text_of_class}
+use Rattle.erd_check.proofs.Common.{role_of_class, rows_of_class, is_reference_name, kind_of_identity, kind_of_member, is_required, text_cmp, Class, Role}
+use Rattle.erd_check.proofs.Common.{reason, MemberKind, kind, At, Name, is_not_whole, ShapeFault, NoneOf, IsTree, AreTrees, AreMembers, same_number}
+use Rattle.erd_check.proofs.Common.{is_same_json, are_same_items, are_same_members, class_of_object, want_of_kind, is_report_class, carried_want, asked}
+use Rattle.erd_check.proofs.Common.{Carried, Member, Object, inl, inr, cases_Bool}
 use Rattle.std.proofs.lemmas.Bool.Decides.{Decides-int_eq}
-use Rattle.erd_check.proofs.Shapes.{get_member-first, get_member-before, string_from_text, Within, Within-step, faultless, wanted_within, classed, Classed, member_within, of_role, kind_of_class, want_unless_status}
+use Rattle.erd_check.proofs.Shapes.{get_member-first, get_member-before, string_from_text, Within, Within-step, faultless, wanted_within, classed, Classed}
+use Rattle.erd_check.proofs.Shapes.{member_within, of_role, kind_of_class, want_unless_status}
 use Rattle.erd_check.proofs.Exact.{text_itself, text_exact, flag_itself}
 
 -- a member of the rest is a member
-pub get_member-later : (k q : List ℕ) (d v : Data) (ms : Members) → AreMembers (member k d ms) → get_member q ms ≡ Some v → get_member q (member k d ms) ≡ Some v
+pub get_member-later : (k q : List ℕ) (d v : Data) (ms : Members) → AreMembers (member k d ms) → get_member q ms ≡ Some v
+    → get_member q (member k d ms) ≡ Some v
 get_member-later k q d v ms rise e = at (text_cmp q k) refl
   where
     at : (o : Ordering) → text_cmp q k ≡ o → get_member q (member k d ms) ≡ Some v
@@ -36,7 +44,8 @@ module _ (t : Data) (clean : NoneOf (ShapeFault t)) where
   no_unknown v r w = let h : true ≡ false = faultless t clean (asked (Member kind.StrangeReference r) v) reason.UnknownReference w in cc
 
   carried_member : (name : List ℕ) (v : Data) → Within t (asked (carried_want name) v) → Within t (asked Carried v)
-  carried_member name v w = elim (cases_Bool (bytes_eq name (codes "@id") || is_reference_name name)) [ inl is ↦ absurd (no_strange v false (subst (Within t) (rw is) w)) | inr is ↦ subst (Within t) (rw is) w ]
+  carried_member name v w = elim (cases_Bool (bytes_eq name (codes "@id") || is_reference_name name))
+      [ inl is ↦ absurd (no_strange v false (subst (Within t) (rw is) w)) | inr is ↦ subst (Within t) (rw is) w ]
 
   mutual
     pub carried_itself : (d : Data) → IsTree d → Within t (asked Carried d) → is_same_json d d ≡ true
@@ -52,36 +61,44 @@ module _ (t : Data) (clean : NoneOf (ShapeFault t)) where
     carried_items no_items tree each = refl
     carried_items (item d ds) tree each = and_from _ _ (carried_itself d tree.0 (each zero d refl)) (carried_items ds tree.1 (λ i. each (suc i)))
 
-    carried_members : (ms : Members) → AreMembers ms → ((k : List ℕ) (d : Data) → get_member k ms ≡ Some d → Within t (asked Carried d)) → are_same_members ms ms ≡ true
+    carried_members : (ms : Members) → AreMembers ms → ((k : List ℕ) (d : Data) → get_member k ms ≡ Some d → Within t (asked Carried d))
+        → are_same_members ms ms ≡ true
     carried_members no_members tree each = refl
     carried_members (member k d ms) tree each =
         and_from _ _ (text_itself k)
-        (and_from _ _ (carried_itself d tree.1 (each k d (get_member-first k d ms))) (carried_members ms tree.2 (λ q v e. each q v (get_member-later k q d v ms tree e))))
+        (and_from _ _ (carried_itself d tree.1 (each k d (get_member-first k d ms)))
+        (carried_members ms tree.2 (λ q v e. each q v (get_member-later k q d v ms tree e))))
 
   simple_itself : (k : MemberKind) (r : Bool) (v : Data) → is_simple k ≡ true → IsTree v → Within t (asked (want_of_kind k r) v) → is_same_json v v ≡ true
-  simple_itself kind.Word r v h tree w = let s = string_from_text v (wanted_within t clean (asked (Member kind.Word false) v) w) in subst (λ x. is_same_json x x ≡ true) (sym s.1) (text_itself s.0)
+  simple_itself kind.Word r v h tree w = let s = string_from_text v (wanted_within t clean (asked (Member kind.Word false) v) w) in
+      subst (λ x. is_same_json x x ≡ true) (sym s.1) (text_itself s.0)
   simple_itself kind.StrangeReference r v h tree w = absurd (no_unknown v false w)
   simple_itself kind.StrangeIdentity r v h tree w = absurd (no_strange v false w)
   simple_itself kind.Carried r v h tree w = carried_itself v tree w
   simple_itself _ r v h tree w = cc
 
-  members_itself : (ms : Members) → AreMembers ms → ((k : List ℕ) (d : Data) → get_member k ms ≡ Some d → IsTree d → is_same_json d d ≡ true) → are_same_members ms ms ≡ true
+  members_itself : (ms : Members) → AreMembers ms → ((k : List ℕ) (d : Data) → get_member k ms ≡ Some d → IsTree d → is_same_json d d ≡ true)
+      → are_same_members ms ms ≡ true
   members_itself no_members tree each = refl
   members_itself (member k d ms) tree each =
       and_from _ _ (text_itself k)
       (and_from _ _ (each k d (get_member-first k d ms) tree.1) (members_itself ms tree.2 (λ q v e. each q v (get_member-later k q d v ms tree e))))
 
   -- an entry of a set of objects with texts and carried members alone
-  pub entry_itself : (r : Role) (d : Data) → ((c : Class) → role_of_class c ≡ r → is_simple_class c ≡ true) → IsTree d → Within t (asked (Object r) d) → is_same_json d d ≡ true
+  pub entry_itself : (r : Role) (d : Data) → ((c : Class) → role_of_class c ≡ r → is_simple_class c ≡ true) → IsTree d → Within t (asked (Object r) d)
+      → is_same_json d d ≡ true
   entry_itself r d simple tree w =
       let cl : Classed r d = classed t clean (Object r) r d of_role (wanted_within t clean (asked (Object r) d) w) w in
       let ms : Members = cl.members in
       let w' : Within t (asked (Object r) (object ms)) = subst (λ x. Within t (asked (Object r) x)) cl.is_object w in
       let among : class_of_object r (object ms) ≡ Some cl.class = subst (λ x. class_of_object r x ≡ Some cl.class) cl.is_object cl.among in
-      let typed : get_member (codes "@type") ms ≡ Some (string (text_of_class cl.class)) = subst (λ x. get (codes "@type") x ≡ Some (string (text_of_class cl.class))) cl.is_object cl.text in
-      subst (λ x. is_same_json x x ≡ true) (sym cl.is_object) (members_itself ms (subst IsTree cl.is_object tree) (λ k v e. each ms w' cl.class (simple cl.class cl.role) among typed k v e))
+      let typed : get_member (codes "@type") ms ≡ Some (string (text_of_class cl.class)) =
+      subst (λ x. get (codes "@type") x ≡ Some (string (text_of_class cl.class))) cl.is_object cl.text in
+      subst (λ x. is_same_json x x ≡ true) (sym cl.is_object)
+      (members_itself ms (subst IsTree cl.is_object tree) (λ k v e. each ms w' cl.class (simple cl.class cl.role) among typed k v e))
     where
-      each : (ms : Members) → Within t (asked (Object r) (object ms)) → (c : Class) → is_simple_class c ≡ true → class_of_object r (object ms) ≡ Some c → get_member (codes "@type") ms ≡ Some (string (text_of_class c))
+      each : (ms : Members) → Within t (asked (Object r) (object ms)) → (c : Class) → is_simple_class c ≡ true → class_of_object r (object ms) ≡ Some c
+          → get_member (codes "@type") ms ≡ Some (string (text_of_class c))
           → (k : List ℕ) (v : Data) → get_member k ms ≡ Some v → IsTree v → is_same_json v v ≡ true
       each ms inside c simple among typed k v is vtree = at (bytes_eq k (codes "@type")) refl
         where
@@ -89,7 +106,8 @@ module _ (t : Data) (clean : NoneOf (ShapeFault t)) where
           no_report = rw (not-true (is_report_class c) (and_parts (not (is_report_class c)) _ simple).0)
 
           parts : (list_all (λ m. is_simple m.kind) (rows_of_class c) ≡ true) × (is_simple (kind_of_identity c) ≡ true)
-          parts = and_parts (list_all (λ m. is_simple m.kind) (rows_of_class c)) (is_simple (kind_of_identity c)) (and_parts (not (is_report_class c)) _ simple).1
+          parts = and_parts (list_all (λ m. is_simple m.kind) (rows_of_class c)) (is_simple (kind_of_identity c))
+              (and_parts (not (is_report_class c)) _ simple).1
 
           at : (b : Bool) → bytes_eq k (codes "@type") ≡ b → is_same_json v v ≡ true
           at true named =

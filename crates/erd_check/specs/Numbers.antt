@@ -1,6 +1,7 @@
 -- Whole numbers that fit 64 bits.
 use Rattle.std.specs.Prelude.{◌≡◌, ◌<◌, ◌^◌, pos, negsuc, false, ⊤}
-use Rattle.serde_json.specs.Data.{Num, unsigned, negative, float, Data, null, boolean, number, string, array, object, Items, no_items, item, Members, no_members, member}
+use Rattle.serde_json.specs.Data.{Num, unsigned, negative, float, Data, null, boolean, number, string, array, object, Items, no_items, item, Members}
+use Rattle.serde_json.specs.Data.{no_members, member}
 use Rattle.serde_json.specs.Find.{is_float}
 
 -- The number is whole and lies between -2^63 and 2^64 - 1. It is kept as a negative number only if it is below zero.

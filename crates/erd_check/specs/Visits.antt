@@ -50,8 +50,7 @@ abbrev mutual
   pub told_of_members : Telling → Data → Data → List Step → Scope → Members → List Fault
   told_of_members tells outer owner p s no_members = []
   told_of_members tells outer owner p s (member k d ms) =
-      option_map_or (λ v. told_at tells outer owner (p ++ Name k ∷ []) v false d) (want_of_name s k) []
-      ++ told_of_members tells outer owner p s ms
+      option_map_or (λ v. told_at tells outer owner (p ++ Name k ∷ []) v false d) (want_of_name s k) [] ++ told_of_members tells outer owner p s ms
 
 -- What the walk over a whole report reports.
 abbrev pub told_of_report : Telling → Data → List Fault

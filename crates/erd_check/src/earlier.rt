@@ -49,7 +49,8 @@ pub(crate) fn earlier_of<'a>(
     requires low { index ≤ length items.now }
     requires told { TellsEarlier is_set items.now told.now }
     requires item { item.now ≡ slice_index_or items.now index item.now }
-    ensures { list_any (is_same_json (view item.now)) (map view result.now) ≡ (is_set && list_any (is_same_json (view item.now)) (map view (take index items.now))) }
+    ensures { list_any (is_same_json (view item.now)) (map view result.now) ≡ (is_set && list_any (is_same_json (view item.now))
+        (map view (take index items.now))) }
 {
     match told.get(index) {
         Some(earlier) => earlier,

@@ -47,7 +47,7 @@ impl Visitor for ShapeJudge {
 
     fn visit(&self, alloc: Global, visit: Visit, found: &mut Vec<Fault>) -> Result<(), AllocError> {
         let Visit { value, want, .. } = visit;
-        let path = visit.position.path;
+        let path = visit.context.path;
         if !fits(want, value) {
             push_fault(alloc, path, Reason::WrongKind, found)?;
         }

@@ -76,7 +76,8 @@ impl<'a> ValueSet<'a> {
     /// Adds a value, and returns values to compare with it. One of them is equal to it as JSON if and only if a value of the
     /// set was, before this one was added.
     pub(crate) fn insert_tied(&mut self, value: &'a Value) -> Result<&'a [Value], AllocError>
-        ensures tied { IfOk result (λ tied. list_any (is_same_json (view value.now)) (map view tied.now) ≡ list_any (is_same_json (view value.now)) (values_in self.old)) }
+        ensures tied { IfOk result (λ tied. list_any (is_same_json (view value.now)) (map view tied.now) ≡ list_any (is_same_json (view value.now))
+            (values_in self.old)) }
         ensures stands { IfOk result (λ _. (ds : List Data) → StandsFor ds self.old → StandsFor (ds ++ view value.now ∷ []) self.new) }
     {
         if self.ordered.insert(OrderedValue { value })? {

@@ -8,7 +8,7 @@ ghost use Rattle.erd_check.specs.Trees.{is_same_json};
 ghost use Rattle.erd_check.specs.Wants.{scope_inside};
 ghost use Rattle.erd_check.specs.Paths.{steps_of};
 ghost use Rattle.erd_check.specs.Visits.{faults_of, IsInOrder, IsKnown, IsSilentMember};
-ghost use Rattle.erd_check.specs.declared.want.Want.{Want as Asked};
+ghost use Rattle.erd_check.specs.declared.want.Want.{Want as Wanted};
 
 use crate::path::Path;
 use crate::want::{Scope, Want};
@@ -18,7 +18,7 @@ use std::alloc::{AllocError, Global};
 
 /// Where a value is in a report: its place, and the values around it.
 #[derive(Clone, Copy)]
-pub struct Position<'a> {
+pub struct Context<'a> {
     /// The place of the value.
     pub path: &'a Path<'a>,
     /// The value one step above. For the report, this is the report.
@@ -40,7 +40,7 @@ pub struct Visit<'a> {
     /// earlier entry of the set is. For other values there are none.
     pub earlier: &'a [Value],
     /// Where the value is.
-    pub position: Position<'a>,
+    pub context: Context<'a>,
 }
 
 /// A member that a walk may pass over.
@@ -58,10 +58,10 @@ pub struct Member<'a> {
 pub trait Visitor {
     // The reasons for which a value is refused. They depend on its outer value, what is asked of it, whether it is equal
     // to an earlier entry of its set, and the value itself.
-    ghost tells: { Self → Data → Asked → Bool → Data → List Reason };
+    ghost tells: { Self → Data → Wanted → Bool → Data → List Reason };
 
     // What is known of a value after the visit. It depends on what is asked of the value.
-    ghost Known: { Self → Asked → Data → Type 0 };
+    ghost Known: { Self → Wanted → Data → Type 0 };
 
     // True for a visitor that passes over no object of which the table asks something, unless its members stand in order.
     ghost is_thorough: { Self → Bool };
@@ -73,7 +73,8 @@ pub trait Visitor {
     ///
     /// `AllocError` if out of memory.
     fn passes_over(&self, alloc: Global, member: Member) -> Result<bool, AllocError>
-        ensures silent { IfOk result (λ passes. IsTrue passes → IsSilentMember (tells self.now) (view member.entry.owner.now) member.entry.want (view member.entry.value.now)) }
+        ensures silent { IfOk result (λ passes. IsTrue passes → IsSilentMember (tells self.now) (view member.entry.owner.now) member.entry.want
+            (view member.entry.value.now)) }
         ensures known { IfOk result (λ passes. IsTrue passes → IsKnown (Known self.now) member.entry.want (view member.entry.value.now)) }
         ensures in_order { IfOk result (λ passes. IsTrue passes → IsTrue (is_thorough self.now) → IsInOrder member.entry.want (view member.entry.value.now)) };
 
@@ -85,7 +86,7 @@ pub trait Visitor {
     fn visit(&self, alloc: Global, visit: Visit, found: &mut Vec<Fault>) -> Result<(), AllocError>
         requires scope { visit.scope ≡ scope_inside visit.want (view visit.value.now) }
         ensures told { IfOk result (λ _. found.new.items ≡ found.old.items
-            ++ faults_of (steps_of visit.entry.position.path.now) (tells self.now (view visit.entry.position.outer.now) visit.entry.want
+            ++ faults_of (steps_of visit.entry.context.path.now) (tells self.now (view visit.entry.context.outer.now) visit.entry.want
             (list_any (is_same_json (view visit.entry.value.now)) (map view visit.entry.earlier.now)) (view visit.entry.value.now))) }
         ensures known { IfOk result (λ _. Known self.now visit.entry.want (view visit.entry.value.now)) };
 }

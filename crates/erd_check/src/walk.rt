@@ -9,14 +9,15 @@ ghost use Rattle.erd_check.specs.Trees.{is_same_json};
 ghost use Rattle.erd_check.specs.Values.{names};
 ghost use Rattle.erd_check.specs.Wants.{entry_want, is_compared_set};
 ghost use Rattle.erd_check.specs.Paths.{steps_of};
-ghost use Rattle.erd_check.specs.Visits.{told_at, told_of_items, told_of_members, told_of_report, IsKnown, AreEntriesKnown, AreMembersKnown, IsInOrder, AreEntriesInOrder, AreMembersInOrder, IsSilentMember};
+ghost use Rattle.erd_check.specs.Visits.{told_at, told_of_items, told_of_members, told_of_report, IsKnown, AreEntriesKnown, AreMembersKnown, IsInOrder};
+ghost use Rattle.erd_check.specs.Visits.{AreEntriesInOrder, AreMembersInOrder, IsSilentMember};
 ghost use Rattle.erd_check.specs.declared.want.Want.TheVariants.{Object};
 ghost use Rattle.erd_tables.specs.declared.class.Role.TheVariants.{Report};
 
 use crate::earlier::{earlier_of, equal_entries};
 use crate::path::Path;
 use crate::silent::Silent;
-use crate::visitor::{Member, Position, Visit, Visitor};
+use crate::visitor::{Context, Member, Visit, Visitor};
 use crate::want::{Scope, Want, is_set_wanted, scope_of, want_in, want_of_entry};
 use erd_tables::{Fault, Role};
 use serde_json::{Map, Value};
@@ -79,12 +80,12 @@ pub(crate) fn walk_both<A: Visitor, B: Visitor>(
         second: Vec::new(alloc),
     };
     let want = Want::Object(Role::Report);
-    let position = Position {
+    let context = Context {
         path: &Path::Root,
         owner: report,
         outer: report,
     };
-    walk(&visitors, report, want, &[], position, &mut found)?;
+    walk(&visitors, report, want, &[], context, &mut found)?;
     Ok(found)
 }
 
@@ -95,14 +96,14 @@ fn walk<'a, A: Visitor, B: Visitor>(
     value: &'a Value,
     want: Want,
     earlier: &'a [Value],
-    position: Position<'a>,
+    context: Context<'a>,
     found: &mut Findings,
 ) -> Result<(), AllocError>
     ensures first { IfOk result (λ _. found.new.first.items ≡ found.old.first.items
-        ++ told_at (A.tells visitors.now.first.now) (view position.entry.outer.now) (view position.entry.owner.now) (steps_of position.entry.path.now)
+        ++ told_at (A.tells visitors.now.first.now) (view context.entry.outer.now) (view context.entry.owner.now) (steps_of context.entry.path.now)
         want (list_any (is_same_json (view value.now)) (map view earlier.now)) (view value.now)) }
     ensures second { IfOk result (λ _. found.new.second.items ≡ found.old.second.items
-        ++ told_at (B.tells visitors.now.second.now) (view position.entry.outer.now) (view position.entry.owner.now) (steps_of position.entry.path.now)
+        ++ told_at (B.tells visitors.now.second.now) (view context.entry.outer.now) (view context.entry.owner.now) (steps_of context.entry.path.now)
         want (list_any (is_same_json (view value.now)) (map view earlier.now)) (view value.now)) }
     ensures known { IfOk result (λ _. IsKnown (A.Known visitors.now.first.now) want (view value.now)) }
     ensures in_order { IfOk result (λ _. IsTrue (A.is_thorough visitors.now.first.now) → IsInOrder want (view value.now)) }
@@ -114,14 +115,14 @@ fn walk<'a, A: Visitor, B: Visitor>(
         want,
         scope,
         earlier,
-        position,
+        context,
     };
     visitors.first.visit(alloc, visit, &mut found.first)?;
     visitors.second.visit(alloc, visit, &mut found.second)?;
-    let inside = Position {
-        path: &*position.path,
+    let inside = Context {
+        path: &*context.path,
         owner: &*value,
-        outer: &*position.owner,
+        outer: &*context.owner,
     };
     match value {
         Value::Array(items) => walk_items(visitors, inside, want, items, found),
@@ -134,7 +135,7 @@ fn walk<'a, A: Visitor, B: Visitor>(
 #[cycle(walk)]
 fn walk_items<'a, A: Visitor, B: Visitor>(
     visitors: &Visitors<A, B>,
-    inside: Position<'a>,
+    inside: Context<'a>,
     want: Want,
     items: &'a Vec<Value>,
     found: &mut Findings,
@@ -156,11 +157,11 @@ fn walk_items<'a, A: Visitor, B: Visitor>(
     for (index, item) in items.iter().enumerate() {
         let path = Path::Entry(&*inside.path, index);
         let earlier = earlier_of(is_set, &*items, &told, index, item);
-        let position = Position {
+        let context = Context {
             path: &path,
             ..inside
         };
-        walk(visitors, item, entry, earlier, position, found)?;
+        walk(visitors, item, entry, earlier, context, found)?;
     }
     Ok(())
 }
@@ -169,7 +170,7 @@ fn walk_items<'a, A: Visitor, B: Visitor>(
 #[cycle(walk)]
 fn walk_members<'a, A: Visitor, B: Visitor>(
     visitors: &Visitors<A, B>,
-    inside: Position<'a>,
+    inside: Context<'a>,
     scope: Scope,
     members: &'a Map<String, Value>,
     found: &mut Findings,
@@ -195,11 +196,11 @@ fn walk_members<'a, A: Visitor, B: Visitor>(
         };
         if !are_silent(visitors, inner)? {
             let path = Path::Member(&*inside.path, name.as_str());
-            let position = Position {
+            let context = Context {
                 path: &path,
                 ..inside
             };
-            walk(visitors, member, want, &[], position, found)?;
+            walk(visitors, member, want, &[], context, found)?;
         }
     }
     Ok(())
@@ -210,10 +211,13 @@ fn are_silent<A: Visitor, B: Visitor>(
     visitors: &Visitors<A, B>,
     member: Member,
 ) -> Result<bool, AllocError>
-    ensures first { IfOk result (λ passed. IsTrue passed → IsSilentMember (A.tells visitors.now.first.now) (view member.entry.owner.now) member.entry.want (view member.entry.value.now)) }
-    ensures second { IfOk result (λ passed. IsTrue passed → IsSilentMember (B.tells visitors.now.second.now) (view member.entry.owner.now) member.entry.want (view member.entry.value.now)) }
+    ensures first { IfOk result (λ passed. IsTrue passed → IsSilentMember (A.tells visitors.now.first.now) (view member.entry.owner.now) member.entry.want
+        (view member.entry.value.now)) }
+    ensures second { IfOk result (λ passed. IsTrue passed → IsSilentMember (B.tells visitors.now.second.now) (view member.entry.owner.now) member.entry.want
+        (view member.entry.value.now)) }
     ensures known { IfOk result (λ passed. IsTrue passed → IsKnown (A.Known visitors.now.first.now) member.entry.want (view member.entry.value.now)) }
-    ensures in_order { IfOk result (λ passed. IsTrue passed → IsTrue (A.is_thorough visitors.now.first.now) → IsInOrder member.entry.want (view member.entry.value.now)) }
+    ensures in_order { IfOk result (λ passed. IsTrue passed
+        → IsTrue (A.is_thorough visitors.now.first.now) → IsInOrder member.entry.want (view member.entry.value.now)) }
 {
     let alloc = visitors.alloc;
     Ok(visitors.first.passes_over(alloc, member)? && visitors.second.passes_over(alloc, member)?)

@@ -30,7 +30,8 @@ after_member (Member name) ms = member (codes "member") (string name) ms
 -- The members of the JSON object of a difference, with these behind them: `how`, `key`, `member` for the member that differs, and
 -- `part`.
 abbrev pub difference_members : Difference → Members → Members
-difference_members d ms = member (codes "how") (string (how_words d.how)) (member (codes "key") (key_data d.key) (after_member d.how (member (codes "part") (string (part_text d.part)) ms)))
+difference_members d ms = member (codes "how") (string (how_words d.how))
+    (member (codes "key") (key_data d.key) (after_member d.how (member (codes "part") (string (part_text d.part)) ms)))
 
 -- The JSON object of a difference.
 abbrev pub difference_data : Difference → Data

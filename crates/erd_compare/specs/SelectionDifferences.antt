@@ -1,5 +1,6 @@
 -- What differs inside the selections of contests, and the list of all differences with it. All of this is the profile's own.
-use Rattle.std.specs.Prelude.{ℕ, ◌+◌, ◌<◌, ◌≤◌, ◌≡◌, List, [], ◌∷◌, ◌++◌, Bool, true, false, map, take, drop, length, sum_by, Option, Some, None, option_and_then, option_map, codes, ⊤}
+use Rattle.std.specs.Prelude.{ℕ, ◌+◌, ◌<◌, ◌≤◌, ◌≡◌, List, [], ◌∷◌, ◌++◌, Bool, true, false, map, take, drop, length, sum_by, Option, Some, None}
+use Rattle.std.specs.Prelude.{option_and_then, option_map, codes, ⊤}
 use Rattle.std.specs.List.{AllByRecursion}
 use Rattle.std.specs.List.Sorted.{IsStrictlySortedBy}
 use Rattle.std.specs.Option.{option_cmp}

@@ -14,7 +14,8 @@ pub use Rattle.erd_check.specs.ValueSets.{values_in}
 pub use Rattle.erd_check.specs.Values.{entries_of, text_at}
 pub use Rattle.erd_meaning.specs.Meaning.{no_content}
 pub use Rattle.erd_meaning.specs.RankedNames.{with_ranks}
-pub use Rattle.erd_meaning.specs.Records.{carried_members, class_of_node, content_of, contest_node, header_node, is_header_class, is_in_envelope, json_set, key_set, label_of, meaning, node_of, object_record, plain_member, plain_value, selection_map, selection_record}
+pub use Rattle.erd_meaning.specs.Records.{carried_members, class_of_node, content_of, contest_node, header_node, is_header_class, is_in_envelope, json_set}
+pub use Rattle.erd_meaning.specs.Records.{key_set, label_of, meaning, node_of, object_record, plain_member, plain_value, selection_map, selection_record}
 pub use Rattle.erd_meaning.specs.SelectionNames.{key_named, keys_named, name_named}
 pub use Rattle.erd_meaning.specs.declared.keys.key.Key.{Key}
 pub use Rattle.erd_compare.specs.DifferenceData.{difference_data, difference_members, how_words, key_data}

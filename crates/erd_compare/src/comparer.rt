@@ -115,7 +115,8 @@ impl<'a> Comparer<'a> {
         role: Role,
         position: usize,
     ) -> Option<&'a Value>
-        ensures found { option_map (λ v. view v.now) result ≡ option_map (λ o. o.value) (slice_get (objects_in role (view (on_side side self.now.left self.now.right).tree)) position) }
+        ensures found { option_map (λ v. view v.now) result ≡ option_map (λ o. o.value)
+            (slice_get (objects_in role (view (on_side side self.now.left self.now.right).tree)) position) }
         ensures comparable { IsComparable (on_side side self.now.left self.now.right).prefer (view (on_side side self.now.left self.now.right).tree) }
     {
         let report = self.on(side);

@@ -7,8 +7,8 @@ ghost use Rattle.erd_compare.specs.code.KeyedDifferences.{IsComparable};
 use crate::comparer::Comparer;
 use crate::difference::{Difference, How, Part};
 use crate::first::all_differences;
+use crate::inside::name_differences::differences_at;
 use crate::inside::room::{Room, left_after_text};
-use crate::inside::told::differences_at;
 use crate::inside::{SelectionDifference, by_name, selection_ways};
 use erd_meaning::{Key, Report};
 use erd_tables::Family;
@@ -52,7 +52,8 @@ pub fn detailed_differences(
     most_bytes: usize,
 ) -> Result<Vec<DetailedDifference>, AllocError>
     requires one_preference { left.now.prefer ≡ right.now.prefer }
-    ensures { IfOk result (λ found. AreDetailedDifferences (meaning left.now.prefer (view left.now.tree)) (meaning right.now.prefer (view right.now.tree)) first most_bytes found.items) }
+    ensures { IfOk result (λ found. AreDetailedDifferences (meaning left.now.prefer (view left.now.tree)) (meaning right.now.prefer (view right.now.tree)) first
+        most_bytes found.items) }
 {
     let comparer = Comparer::of_both(alloc, left, right)?;
     let found = all_differences(&comparer)?;
@@ -67,7 +68,8 @@ fn with_selections(
     most_bytes: usize,
 ) -> Result<Vec<DetailedDifference>, AllocError>
     ensures listed { IfOk result (λ found. map (λ d. d.difference) found.items ≡ differences.items) }
-    ensures told { IfOk result (λ found. AreTold (meaning comparer.now.left.prefer (view comparer.now.left.tree)) (meaning comparer.now.right.prefer (view comparer.now.right.tree)) first (Some most_bytes) found.items) }
+    ensures told { IfOk result (λ found. AreTold (meaning comparer.now.left.prefer (view comparer.now.left.tree))
+        (meaning comparer.now.right.prefer (view comparer.now.right.tree)) first (Some most_bytes) found.items) }
 {
     let mut found = Vec::with_capacity(comparer.alloc, differences.len())?;
     let mut room = Room {
@@ -91,7 +93,8 @@ fn selections_of(
     difference: &Difference,
     room: &mut Room,
 ) -> Result<Option<Vec<SelectionDifference>>, AllocError>
-    ensures { IfOk result (λ told. PassesOne (meaning comparer.now.left.prefer (view comparer.now.left.tree)) (meaning comparer.now.right.prefer (view comparer.now.right.tree)) difference.now (option_map (λ v. v.items) told) room.old room.new) }
+    ensures { IfOk result (λ told. PassesOne (meaning comparer.now.left.prefer (view comparer.now.left.tree))
+        (meaning comparer.now.right.prefer (view comparer.now.right.tree)) difference.now (option_map (λ v. v.items) told) room.old room.new) }
 {
     if room.first > 0 {
         room.first -= 1;
@@ -113,7 +116,8 @@ fn selections_within(
     other_contest: Option<usize>,
     room: &mut Option<usize>,
 ) -> Result<Option<Vec<SelectionDifference>>, AllocError>
-    ensures { IfOk result (λ told. PassesInside (contest_map comparer.now.left contest) (contest_map comparer.now.right other_contest) (option_map (λ v. v.items) told) room.old room.new) }
+    ensures { IfOk result (λ told. PassesInside (contest_map comparer.now.left contest) (contest_map comparer.now.right other_contest)
+        (option_map (λ v. v.items) told) room.old room.new) }
 {
     let Some(bytes) = *room else {
         return Ok(None);

@@ -3,14 +3,14 @@ ghost use Rattle.erd_compare.specs.Words.{view, meaning, AreDifferences, AreDiff
 ghost use Rattle.erd_compare.specs.declared.difference.Difference.{Difference as difference};
 ghost use Rattle.erd_compare.specs.code.Comparing.{TellsPart};
 
+mod key_differences;
 mod key_steps;
-mod tables;
-mod told;
+mod keyed_ways;
 
 use crate::comparer::Comparer;
 use crate::difference::{Difference, Part};
+use crate::first::key_differences::copied;
 use crate::first::key_steps::{first_keyed, push_differences};
-use crate::first::told::copied;
 use erd_meaning::Report;
 use std::alloc::{AllocError, Global};
 
@@ -89,9 +89,13 @@ pub fn differences(
     right: &Report,
 ) -> Result<Vec<Difference>, AllocError>
     requires one_preference { left.now.prefer ≡ right.now.prefer }
-    ensures all { IfOk result (λ found. AreDifferences (meaning left.now.prefer (view left.now.tree)) (meaning right.now.prefer (view right.now.tree)) found.items) }
-    ensures each { IfOk result (λ found. (d : difference) → AreDifferent (meaning left.now.prefer (view left.now.tree)) (meaning right.now.prefer (view right.now.tree)) d → Stands d found.items) }
-    ensures first { IfOk result (λ found. IsDifference (meaning left.now.prefer (view left.now.tree)) (meaning right.now.prefer (view right.now.tree)) (first_of found.items)) }
+    ensures all { IfOk result (λ found. AreDifferences (meaning left.now.prefer (view left.now.tree))
+        (meaning right.now.prefer (view right.now.tree)) found.items) }
+    ensures each { IfOk result (λ found. (d : difference) → AreDifferent (meaning left.now.prefer (view left.now.tree))
+        (meaning right.now.prefer (view right.now.tree))
+        d → Stands d found.items) }
+    ensures first { IfOk result (λ found. IsDifference (meaning left.now.prefer (view left.now.tree)) (meaning right.now.prefer (view right.now.tree))
+        (first_of found.items)) }
     ensures same { IfOk result (λ found. (found.items ≡ []) ↔ (meaning left.now.prefer (view left.now.tree) ≡ meaning right.now.prefer (view right.now.tree))) }
 {
     let comparer = Comparer::of_both(alloc, left, right)?;
@@ -100,7 +104,8 @@ pub fn differences(
 
 /// Returns all differences between the two reports, in rising order.
 pub(crate) fn all_differences(comparer: &Comparer) -> Result<Vec<Difference>, AllocError>
-    ensures { IfOk result (λ found. AreDifferences (meaning comparer.now.left.prefer (view comparer.now.left.tree)) (meaning comparer.now.right.prefer (view comparer.now.right.tree)) found.items) }
+    ensures { IfOk result (λ found. AreDifferences (meaning comparer.now.left.prefer (view comparer.now.left.tree))
+        (meaning comparer.now.right.prefer (view comparer.now.right.tree)) found.items) }
 {
     let mut found = Vec::new(comparer.alloc);
     for part in PARTS {
@@ -111,7 +116,8 @@ pub(crate) fn all_differences(comparer: &Comparer) -> Result<Vec<Difference>, Al
 
 /// Returns the first difference between the two reports at a part.
 fn part_difference(comparer: &Comparer, part: Part) -> Result<Option<Difference>, AllocError>
-    ensures { IfOk result (TellsPart (meaning comparer.now.left.prefer (view comparer.now.left.tree)) (meaning comparer.now.right.prefer (view comparer.now.right.tree)) part) }
+    ensures { IfOk result (TellsPart (meaning comparer.now.left.prefer (view comparer.now.left.tree))
+        (meaning comparer.now.right.prefer (view comparer.now.right.tree)) part) }
 {
     let Some(next) = first_keyed(comparer, part)? else {
         return Ok(None);

@@ -4,10 +4,10 @@ ghost use Rattle.erd_meaning.specs.Words.{rising_list};
 ghost use Rattle.erd_compare.specs.code.ContestSelections.{contest_map};
 ghost use Rattle.erd_compare.specs.code.NamedSelections.{named_cmp, AreAllWays};
 
+pub(crate) mod name_differences;
 mod named;
 mod numbered;
 pub(crate) mod room;
-pub(crate) mod told;
 
 use crate::comparer::Comparer;
 use crate::difference::How;
@@ -28,8 +28,9 @@ pub struct SelectionDifference {
     pub how: How,
 }
 
-/// Returns the ways in which the selections of the contests at these positions differ, for each name at which they do, in no order of
-/// the names. No position stands for a contest without selections. Names are told apart by their numbers, and none is copied.
+/// Returns the ways in which the selections of the contests at these positions differ, for each name at which they do, in no
+/// order of the names. No position stands for a contest without selections. Names are told apart by their numbers, and none is
+/// copied.
 pub(crate) fn selection_ways<'a>(
     comparer: &'a Comparer,
     contest: Option<usize>,

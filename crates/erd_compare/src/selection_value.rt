@@ -1,7 +1,8 @@
 ghost use Rattle.std.specs.Prelude.{◌≡◌, codes, map, option_map, IfOk};
 ghost use Rattle.serde_json.specs.Data.{array};
 ghost use Rattle.serde_json.specs.View.{items_of};
-ghost use Rattle.erd_compare.specs.Words.{member, no_members, object, string, view, detailed_data, difference_members, key_as_json, label_data, name_data, order_data, selection_data, selections_data, whole_data};
+ghost use Rattle.erd_compare.specs.Words.{member, no_members, object, string, view, detailed_data, difference_members, key_as_json, label_data, name_data};
+ghost use Rattle.erd_compare.specs.Words.{order_data, selection_data, selections_data, whole_data};
 
 use crate::detailed::DetailedDifference;
 use crate::difference::{Difference, How, key_value, part_words};

@@ -1,5 +1,6 @@
 -- A set whose keys have numbers answers as the list of its keys.
-use Rattle.std.proofs.Common.{◌≡◌, ℕ, ◌+◌, Bool, true, cond, not, ◌&&◌, ◌||◌, ◌==◌, List, [], ◌∷◌, ◌++◌, Some, position, refl, sym, ap, ◌∙◌, ap₂, inl, inr, arith}
+use Rattle.std.proofs.Common.{◌≡◌, ℕ, ◌+◌, Bool, true, cond, not, ◌&&◌, ◌||◌, ◌==◌, List, [], ◌∷◌, ◌++◌, Some, position, refl, sym, ap, ◌∙◌, ap₂, inl, inr}
+use Rattle.std.proofs.Common.{arith}
 use Rattle.std.proofs.lemmas.Bool.{cases_Bool}
 use Rattle.std.proofs.lemmas.Bool.Decides.{Decides-eqb}
 use Rattle.std.proofs.lemmas.Iterator.Adapters.{position_from-zero}
@@ -65,4 +66,8 @@ module _ {K : Type 0} (writes : K → HashWrites) (salt : Salt) where
       inserted_index = place_numbered s.number (same s.key) (λ l e. is ∙ ap (λ ws. salted_number salt ws) (alike k l e)) keys all
 
       pub inserted_keys : keys_in (insert_key same_salted keys s) ≡ insert_key same (keys_in keys) s.key
-      inserted_keys = elim (cases_Bool (list_any (same_salted s) keys)) [ inl is ↦ rw (is, ← inserted_any, is) refl | inr is ↦ rw (is, ← inserted_any, is) (keys_push keys s) ]
+      inserted_keys =
+          elim (cases_Bool (list_any (same_salted s) keys)) [
+            | inl is ↦ rw (is, ← inserted_any, is) refl
+            | inr is ↦ rw (is, ← inserted_any, is) (keys_push keys s)
+          ]

@@ -1,5 +1,6 @@
 -- What is written of a number or of a text tells where it ends.
-use Rattle.std.proofs.Common.{◌≡◌, ◌<◌, ◌≤◌, ◌+◌, ◌-◌, ◌%◌, ◌^◌, ℕ, Bool, true, false, cond, nat_lt, List, [], ◌∷◌, ◌++◌, length, take, drop, replicate, fold, get_or, min, append-nil, refl, sym, ap, ◌∙◌, arith, inl, inr}
+use Rattle.std.proofs.Common.{◌≡◌, ◌<◌, ◌≤◌, ◌+◌, ◌-◌, ◌%◌, ◌^◌, ℕ, Bool, true, false, cond, nat_lt, List, [], ◌∷◌, ◌++◌, length, take, drop, replicate, fold}
+use Rattle.std.proofs.Common.{get_or, min, append-nil, refl, sym, ap, ◌∙◌, arith, inl, inr}
 use Rattle.std.specs.Hash.{HashWrites, le_bytes, u64, usize}
 use Rattle.std.specs.Hash.DefaultHasher.{write}
 use Rattle.std.specs.declared.hash.DefaultHasher.{DefaultHasher}
@@ -51,7 +52,13 @@ rest_length text = length-drop (whole_words (length text)) text ∙ omega arith
 
 seven : (text : List ℕ) → length (low_bytes text) ≡ 7
 unfolding low_bytes
-seven text = omega (arith, length-append (drop (whole_words (length text)) text) (replicate (7 - length text % 8) 0), rest_length text, length-replicate {A = ℕ} (7 - length text % 8) 0)
+seven text =
+    omega (
+      arith,
+      length-append (drop (whole_words (length text)) text) (replicate (7 - length text % 8) 0),
+      rest_length text,
+      length-replicate {A = ℕ} (7 - length text % 8) 0,
+    )
 
 split_word : (text : List ℕ) → first_word text ≡ low_bytes text ++ short_length (length text) ∷ []
 unfolding low_bytes

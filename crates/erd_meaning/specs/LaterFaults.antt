@@ -102,8 +102,7 @@ is_selection_in contest id = list_any (has_id id) (entries_at (codes "ContestSel
 -- `@id`.
 abbrev pub is_in_other_contest : Data → Data → List ℕ → Bool
 is_in_other_contest t d id =
-    is_some (owner t family.Selection id)
-    && option_map_or (λ contest. not (is_selection_in contest id))
+    is_some (owner t family.Selection id) && option_map_or (λ contest. not (is_selection_in contest id))
     (owner t family.Contest (text_at (codes "ContestId") d)) false
 
 -- True if the entry is a reference to a selection, and to one of another contest in the sense above. (class OrderedContest)

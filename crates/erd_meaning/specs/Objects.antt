@@ -1,5 +1,6 @@
 -- The objects of a report by family, with their places, and the object that an `@id` names.
-use Rattle.std.specs.Prelude.{ℕ, ◌+◌, ◌<◌, ◌^◌, List, [], ◌∷◌, ◌++◌, Bool, false, if◌then◌else◌, nat_lt, Option, Some, None, option_and_then, option_map, is_some, find, length, map, codes, Contains}
+use Rattle.std.specs.Prelude.{ℕ, ◌+◌, ◌<◌, ◌^◌, List, [], ◌∷◌, ◌++◌, Bool, false, if◌then◌else◌, nat_lt, Option, Some, None, option_and_then, option_map}
+use Rattle.std.specs.Prelude.{is_some, find, length, map, codes, Contains}
 use Rattle.std.specs.List.{enumerate_from, flat_map, list_any}
 use Rattle.std.specs.Option.{option_map_or}
 use Rattle.std.specs.Str.{bytes_eq}

@@ -19,7 +19,9 @@ use Rattle.erd_check.specs.Trees.{is_same_json}
 use Rattle.erd_check.specs.Values.{entries_of, entries_at, text_at}
 use Rattle.erd_check.specs.Wants.{class_of_object}
 use Rattle.erd_meaning.specs.Keys.{Preference, key_cmp, key_of}
-use Rattle.erd_meaning.specs.Meaning.{JsonMap, JsonSet, KeySet, Label, untranslated, translated, Content, no_content, first_node, Node, a_contest, a_header, PlainValue, a_json, a_label, a_json_set, a_key, a_key_set, a_content, Record, SelectionRecord, MemberValue, a_plain, a_selection_map, ObjectRecord, Meaning}
+use Rattle.erd_meaning.specs.Meaning.{JsonMap, JsonSet, KeySet, Label, untranslated, translated, Content, no_content, first_node, Node, a_contest, a_header}
+use Rattle.erd_meaning.specs.Meaning.{PlainValue, a_json, a_label, a_json_set, a_key, a_key_set, a_content, Record, SelectionRecord, MemberValue, a_plain}
+use Rattle.erd_meaning.specs.Meaning.{a_selection_map, ObjectRecord, Meaning}
 use Rattle.erd_meaning.specs.NameParts.{NameParts}
 use Rattle.erd_meaning.specs.Lookups.{election_key_of}
 use Rattle.erd_meaning.specs.Objects.{Placed, objects, elections}

@@ -1,8 +1,10 @@
 -- What the salt of a report is computed from: all that its indexes hash of its elections and objects. Each part says where it
 -- ends, so that no part can take from the next.
-use Rattle.std.specs.Prelude.{◌≡◌, ◌∷◌, codes, map, ℕ, length, ◌<◌, ◌^◌, ◌+◌, ◌-◌, ◌*◌, cond, is_some, List, [], ◌++◌, true, false, Option, Some, None, IfSome, ⊤}
+use Rattle.std.specs.Prelude.{◌≡◌, ◌∷◌, codes, map, ℕ, length, ◌<◌, ◌^◌, ◌+◌, ◌-◌, ◌*◌, cond, is_some, List, [], ◌++◌, true, false, Option, Some, None, IfSome}
+use Rattle.std.specs.Prelude.{⊤}
 use Rattle.std.specs.Hash.{HashWrites, i64, u64, usize}
-use Rattle.serde_json.specs.Data.{Num, unsigned, negative, float, Data, null, boolean, number, string, array, object, Items, no_items, item, Members, no_members, member}
+use Rattle.serde_json.specs.Data.{Num, unsigned, negative, float, Data, null, boolean, number, string, array, object, Items, no_items, item, Members}
+use Rattle.serde_json.specs.Data.{no_members, member}
 use Rattle.std.specs.List.{flat_map, AllByRecursion}
 use Rattle.std.specs.declared.hash.DefaultHasher.{DefaultHasher}
 use Rattle.erd_index.specs.Salts.{bytes_in, fed, salt_start, text_writes, unfed}
@@ -136,15 +138,13 @@ hashed_in_contest π o = hashed_object π family.Contest o ∷ hashed_objects π
 -- What they hash of an election, and then of its objects.
 abbrev pub hashed_in_election : Preference → Placed → List Hashed
 hashed_in_election π e =
-    hashed_election π e
-    ∷ (hashed_objects π family.Style (placed_entries (codes "BallotStyle") e)
+    hashed_election π e ∷ (hashed_objects π family.Style (placed_entries (codes "BallotStyle") e)
     ++ (hashed_objects π family.Candidate (placed_entries (codes "Candidate") e) ++ flat_map (hashed_in_contest π) (placed_entries (codes "Contest") e)))
 
 -- What they hash of the objects that are outside the elections.
 abbrev pub hashed_outside : Preference → Placed → List Hashed
 hashed_outside π r =
-    hashed_objects π family.Unit (placed_entries (codes "GpUnit") r)
-    ++ (hashed_objects π family.Header (placed_entries (codes "Header") r)
+    hashed_objects π family.Unit (placed_entries (codes "GpUnit") r) ++ (hashed_objects π family.Header (placed_entries (codes "Header") r)
     ++ (hashed_objects π family.Office (placed_entries (codes "Office") r)
     ++ (hashed_objects π family.Party (placed_entries (codes "Party") r) ++ hashed_objects π family.Person (placed_entries (codes "Person") r))))
 

@@ -29,7 +29,8 @@ pub use Rattle.erd_meaning.specs.Hashes.{after_keys_writes, key_writes, name_wri
 pub use Rattle.erd_meaning.specs.Judged.{Judged}
 pub use Rattle.erd_meaning.specs.Keys.{has_keys, key_cmp, key_of, key_of_family_object, triple_of, Preference}
 pub use Rattle.erd_meaning.specs.LaterFaults.{IdentityFault, ReferenceFault, SelectionFault}
-pub use Rattle.erd_meaning.specs.Lookups.{election_in, election_key_in, election_rank_of, key_in, rank_of, rising_election_keys, rising_keys, selection_in, selections_before, FindsId, FindsKey, FindsSelection}
+pub use Rattle.erd_meaning.specs.Lookups.{election_in, election_key_in, election_rank_of, key_in, rank_of, rising_election_keys, rising_keys, selection_in}
+pub use Rattle.erd_meaning.specs.Lookups.{selections_before, FindsId, FindsKey, FindsSelection}
 pub use Rattle.erd_meaning.specs.NameParts.{NameParts}
 pub use Rattle.erd_meaning.specs.NumberedNames.{numbered_name_cmp, numbered_name_writes, numbered_parts, RankedParts}
 pub use Rattle.erd_meaning.specs.Objects.{elections, id_of, numbered_selections, numbered_selections_of, objects, placed_entries, IsBounded}

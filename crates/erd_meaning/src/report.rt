@@ -1,5 +1,7 @@
 ghost use Rattle.std.specs.Prelude.{◌≡◌, false, List, Some, length, map, option_copied, option_map, slice_get, IfOk};
-ghost use Rattle.erd_meaning.specs.Words.{view, has_float, HasFittingNumbers, IsShallow, IsTree, IsAccepted, FindsId, FindsKey, FindsSelection, election_in, election_key_in, key_in, rising_keys, selection_in, selections_before, IsBounded, elections, objects, ranked_selection_in, report_start, CoversEachKey};
+ghost use Rattle.erd_meaning.specs.Words.{view, has_float, HasFittingNumbers, IsShallow, IsTree, IsAccepted, FindsId, FindsKey, FindsSelection, election_in};
+ghost use Rattle.erd_meaning.specs.Words.{election_key_in, key_in, rising_keys, selection_in, selections_before, IsBounded, elections, objects};
+ghost use Rattle.erd_meaning.specs.Words.{ranked_selection_in, report_start, CoversEachKey};
 ghost use Rattle.erd_index.specs.Salts.{start_of};
 ghost use Rattle.erd_meaning.specs.code.RanksAmong.{AllAreRanked, names_of};
 ghost use Rattle.erd_meaning.specs.code.Resolved.{IsResolved};
@@ -9,7 +11,7 @@ ghost use Rattle.erd_meaning.specs.code.SelectionWalk.{NumberedName};
 ghost use Rattle.erd_meaning.specs.code.Shown.{shown};
 
 pub(crate) mod accepting;
-mod orders;
+mod ranks;
 pub(crate) mod reference_arrays;
 pub(crate) mod reference_judge;
 pub(crate) mod resolving;

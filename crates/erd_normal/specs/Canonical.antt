@@ -53,8 +53,7 @@ kind_wanted w = None
 -- No array of the table is empty. An outside member of an accepted report is an empty array, so a canonical report has none.
 abbrev pub HasNoEmptyArray : Data → Type 0
 HasNoEmptyArray t =
-    (p : List Step) (a : Asked) (k : MemberKind) → asked_at t p ≡ Some a → kind_wanted a.want ≡ Some k
-    → is_empty_array a.value ≡ false
+    (p : List Step) (a : Asked) (k : MemberKind) → asked_at t p ≡ Some a → kind_wanted a.want ≡ Some k → is_empty_array a.value ≡ false
 
 -- The key of each object in the list, in their order.
 abbrev pub keys_of : Preference → List Data → List (Option Key)
@@ -78,8 +77,7 @@ RisesAs π t k ds = ⊤
 -- The entries of each set of the table strictly rise in the order of its kind.
 abbrev pub AreSetsInOrder : Preference → Data → Type 0
 AreSetsInOrder π t =
-    (p : List Step) (a : Asked) (k : MemberKind) → asked_at t p ≡ Some a → kind_wanted a.want ≡ Some k
-    → RisesAs π t k (entries_of a.value)
+    (p : List Step) (a : Asked) (k : MemberKind) → asked_at t p ≡ Some a → kind_wanted a.want ≡ Some k → RisesAs π t k (entries_of a.value)
 
 -- ---- `@id` texts
 

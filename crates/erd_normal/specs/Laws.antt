@@ -68,16 +68,13 @@ pub record IsSelection (π : Preference) (t : Data) (key : Key) (name : NamePart
 -- What means the same is written the same in both trees: references, sets of references, the `@id` of a selection, and
 -- ordered contents.
 pub record WriteAlike (π : Preference) (t u : Data) : Type 0 where
-  pub references : (f : Family) (a b : List ℕ) (k : Key) → IsTrue (has_keys f)
-      → key_named π t f a ≡ Some k → key_named π u f b ≡ Some k → a ≡ b
+  pub references : (f : Family) (a b : List ℕ) (k : Key) → IsTrue (has_keys f) → key_named π t f a ≡ Some k → key_named π u f b ≡ Some k → a ≡ b
   pub sets : (f : Family) (p q : List Step) (a b : Asked) → IsTrue (has_keys f) → asked_at t p ≡ Some a → asked_at u q ≡ Some b
       → kind_wanted a.want ≡ Some (kind.Many f) → kind_wanted b.want ≡ Some (kind.Many f)
       → key_set (keys_named π t f (entries_of a.value)) ≡ key_set (keys_named π u f (entries_of b.value)) → a.value ≡ b.value
-  pub selections : (k : Key) (n : NameParts) (one other : Placed) → IsSelection π t k n one → IsSelection π u k n other
-      → id_of one.value ≡ id_of other.value
+  pub selections : (k : Key) (n : NameParts) (one other : Placed) → IsSelection π t k n one → IsSelection π u k n other → id_of one.value ≡ id_of other.value
   pub contents : (p q : List Step) (a b : Asked) → asked_at t p ≡ Some a → asked_at u q ≡ Some b
-      → kind_wanted a.want ≡ Some kind.Content → kind_wanted b.want ≡ Some kind.Content
-      → content_of π t a.value ≡ content_of π u b.value → a.value ≡ b.value
+      → kind_wanted a.want ≡ Some kind.Content → kind_wanted b.want ≡ Some kind.Content → content_of π t a.value ≡ content_of π u b.value → a.value ≡ b.value
 
 -- The second law on the way to uniqueness: canonical trees that mean the same write references alike, in the sense above.
 abbrev pub ReferencesAgree : Type 0
@@ -92,8 +89,7 @@ pub record HaveSameObjects (π : Preference) (t u : Data) : Type 0 where
       → object_record π t (role.OfFamily f) one.value ≡ object_record π u (role.OfFamily f) other.value
       → id_of one.value ≡ id_of other.value → one.value ≡ other.value
   pub selections : (one other : Placed) → IsObject t family.Selection one → IsObject u family.Selection other
-      → selection_record π t one.value ≡ selection_record π u other.value
-      → id_of one.value ≡ id_of other.value → one.value ≡ other.value
+      → selection_record π t one.value ≡ selection_record π u other.value → id_of one.value ≡ id_of other.value → one.value ≡ other.value
 
 -- The third law on the way to uniqueness: canonical trees that mean the same have the same objects, in the sense above.
 abbrev pub ObjectsAgree : Type 0

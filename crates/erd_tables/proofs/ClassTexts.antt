@@ -7,7 +7,8 @@ use Rattle.erd_tables.specs.Classes.{text_of_class, classes, class_of_text, Name
 use Rattle.erd_tables.specs.declared.class.Class.{Class}
 use Rattle.erd_tables.specs.declared.class.Class.TheVariants as class
 
-found_head : {A : Type 0} (p : A → Bool) (y x : A) (rest : Option A) (b : Bool) → p y ≡ b → cond b (Some y) rest ≡ Some x → (rest ≡ Some x → p x ≡ true) → p x ≡ true
+found_head : {A : Type 0} (p : A → Bool) (y x : A) (rest : Option A) (b : Bool) → p y ≡ b → cond b (Some y) rest ≡ Some x
+    → (rest ≡ Some x → p x ≡ true) → p x ≡ true
 found_head p y x rest true e h more = let same : y ≡ x = cc in subst (λ z. p z ≡ true) same e
 found_head p y x rest false e h more = more h
 

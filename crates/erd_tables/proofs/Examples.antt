@@ -29,13 +29,13 @@ class_texts : map class_of_text (codes "ElectionResults.Coalition" ∷ codes "Co
 class_texts = refl
 
 -- parties and coalitions are one family, the objects inside others are of none
-families_of_classes : map family_of_class (class.Party ∷ class.Coalition ∷ class.RetentionContest ∷ class.BallotStyle ∷ class.OrderedHeader ∷ class.ExternalIdentifier ∷ [])
-    ≡ Some family.Party ∷ Some family.Party ∷ Some family.Contest ∷ Some family.Style ∷ None ∷ None ∷ []
+families_of_classes : map family_of_class (class.Party ∷ class.Coalition ∷ class.RetentionContest ∷ class.BallotStyle ∷ class.OrderedHeader
+    ∷ class.ExternalIdentifier ∷ []) ≡ Some family.Party ∷ Some family.Party ∷ Some family.Contest ∷ Some family.Style ∷ None ∷ None ∷ []
 families_of_classes = refl
 
 -- a contest may not stand where a selection is asked for
-classes_by_role : map (λ r. class_in_role r (text_of_class class.PartyContest)) (role.OfFamily family.Contest ∷ role.OfFamily family.Selection ∷ role.Content ∷ [])
-    ≡ Some class.PartyContest ∷ None ∷ None ∷ []
+classes_by_role : map (λ r. class_in_role r (text_of_class class.PartyContest))
+    (role.OfFamily family.Contest ∷ role.OfFamily family.Selection ∷ role.Content ∷ []) ≡ Some class.PartyContest ∷ None ∷ None ∷ []
 classes_by_role = refl
 
 -- ---- the table
@@ -49,7 +49,8 @@ contest_kinds = refl
 -- a name of another class is carried, or refused where it ends as a reference's
 elsewhere : (kind_of_member class.ReportingUnit (codes "Text") ≡ kind.Carried) × (kind_of_member class.PartySelection (codes "OtherCounts") ≡ kind.Carried)
     × (kind_of_member class.Election (codes "Notes") ≡ kind.Carried) × (kind_of_member class.Election (codes "OfficeGroup") ≡ kind.Carried)
-    × (kind_of_member class.Person (codes "VendorApplicationId") ≡ kind.StrangeReference) × (kind_of_member class.Party (codes "PartyIds") ≡ kind.StrangeReference)
+    × (kind_of_member class.Person (codes "VendorApplicationId") ≡ kind.StrangeReference)
+    × (kind_of_member class.Party (codes "PartyIds") ≡ kind.StrangeReference)
 elsewhere = (refl, refl, refl, refl, refl, refl)
 
 -- a style has an identity, an election and an identifier have none

@@ -1,5 +1,6 @@
 -- Names without `~` and `/` stand in a pointer as they are.
-use Rattle.std.proofs.Common.{◌≡◌, ℕ, suc, ◌<◌, ◌≤◌, List, [], ◌∷◌, ◌++◌, length, Bool, true, false, ◌||◌, ◌==◌, get_or, refl, append-nil, append_assoc, ap, sym, ◌∙◌, arith, rules, ◌⊎◌, ⊎_elim}
+use Rattle.std.proofs.Common.{◌≡◌, ℕ, suc, ◌<◌, ◌≤◌, List, [], ◌∷◌, ◌++◌, length, Bool, true, false, ◌||◌, ◌==◌, get_or, refl, append-nil, append_assoc, ap}
+use Rattle.std.proofs.Common.{sym, ◌∙◌, arith, rules, ◌⊎◌, ⊎_elim}
 use Rattle.std.specs.Prelude.{encode_utf8}
 use Rattle.std.proofs.lemmas.Str.{NoCharPasses-byte}
 use Rattle.erd_tables.specs.Places.{escaped_byte, escaped_name}
@@ -40,7 +41,5 @@ not_escaped c tilde slash = grind arith
 pub moved : (text written rest left whole : List ℕ) (c : ℕ) → (c ≡ 126 → ⊥) → (c ≡ 47 → ⊥) → text ++ escaped_name left ≡ whole
     → left ≡ encode_utf8 c ++ rest → written ≡ text ++ encode_utf8 c → written ++ escaped_name rest ≡ whole
 moved text written rest left whole c tilde slash before split pushed =
-    ap (λ w. w ++ escaped_name rest) pushed
-    ∙ append_assoc text (encode_utf8 c) (escaped_name rest)
-    ∙ ap (λ e. text ++ e) (sym (character_kept c rest (not_escaped c tilde slash)) ∙ ap escaped_name (sym split))
-    ∙ before
+    ap (λ w. w ++ escaped_name rest) pushed ∙ append_assoc text (encode_utf8 c) (escaped_name rest)
+    ∙ ap (λ e. text ++ e) (sym (character_kept c rest (not_escaped c tilde slash)) ∙ ap escaped_name (sym split)) ∙ before

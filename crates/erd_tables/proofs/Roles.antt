@@ -29,7 +29,8 @@ pub record Named (r : Role) (s : List ℕ) (c : Class) : Type 0 where
   pub role : role_of_class c ≡ r
   pub text : s ≡ text_of_class c
 
-kept_at : (r : Role) (c e : Class) (b : Bool) → (role_number (role_of_class e) == role_number r) ≡ b → cond b (Some e) None ≡ Some c → (e ≡ c) × (role_of_class e ≡ r)
+kept_at : (r : Role) (c e : Class) (b : Bool) → (role_number (role_of_class e) == role_number r) ≡ b → cond b (Some e) None ≡ Some c → (e ≡ c)
+    × (role_of_class e ≡ r)
 kept_at r c e true is h = (cc, role_number_exact (role_of_class e) r ((Decides-eqb (role_number (role_of_class e)) (role_number r)).0 is))
 kept_at r c e false is h = cc
 

@@ -91,8 +91,7 @@ family_of_class c = family_of_role (role_of_class c)
 -- The nine families, in the order of `Family` (`src/class.rt`).
 abbrev pub families : List Family
 families =
-    family.Unit ∷ family.Party ∷ family.Person ∷ family.Office ∷ family.Header ∷ family.Candidate ∷ family.Contest ∷ family.Style
-    ∷ family.Selection ∷ []
+    family.Unit ∷ family.Party ∷ family.Person ∷ family.Office ∷ family.Header ∷ family.Candidate ∷ family.Contest ∷ family.Style ∷ family.Selection ∷ []
 
 -- A number for the family. Different families have different numbers.
 abbrev pub family_number : Family → ℕ

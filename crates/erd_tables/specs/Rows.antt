@@ -5,7 +5,8 @@ use Rattle.erd_tables.specs.declared.class.Class.{Class}
 use Rattle.erd_tables.specs.declared.class.Class.TheVariants as class
 use Rattle.erd_tables.specs.declared.class.Family.TheVariants as family
 use Rattle.erd_tables.specs.declared.member.MemberKind.{MemberKind}
-use Rattle.erd_tables.specs.declared.member.MemberKind.TheVariants.{Word, Label, Flag, Whole, One, Many, Identifiers, Languages, Keyed, Elections, Content, Ordered, Outside}
+use Rattle.erd_tables.specs.declared.member.MemberKind.TheVariants.{Word, Label, Flag, Whole, One, Many, Identifiers, Languages, Keyed, Elections, Content}
+use Rattle.erd_tables.specs.declared.member.MemberKind.TheVariants.{Ordered, Outside}
 
 -- One row of the member table: the name of a member, and the kind of value that it must have.
 pub record Row : Type 0 where
@@ -37,8 +38,7 @@ abbrev pub election_rows : List Row
 election_rows =
     (codes "Name" is Label) ∷ (codes "Type" is Word) ∷ (codes "OtherType" is Word) ∷ (codes "StartDate" is Word)
     ∷ (codes "EndDate" is Word) ∷ (codes "ElectionScopeId" is One family.Unit) ∷ (codes "ExternalIdentifier" is Identifiers)
-    ∷ (codes "Candidate" is Keyed family.Candidate) ∷ (codes "Contest" is Keyed family.Contest)
-    ∷ (codes "BallotStyle" is Keyed family.Style) ∷ []
+    ∷ (codes "Candidate" is Keyed family.Candidate) ∷ (codes "Contest" is Keyed family.Contest) ∷ (codes "BallotStyle" is Keyed family.Style) ∷ []
 
 -- The listed members of ReportingUnit, with those that it has from GpUnit. (class ReportingUnit)
 abbrev pub unit_rows : List Row
@@ -52,15 +52,13 @@ unit_rows =
 abbrev pub party_rows : List Row
 party_rows =
     (codes "Name" is Label) ∷ (codes "Abbreviation" is Label) ∷ (codes "Slogan" is Label)
-    ∷ (codes "LeaderPersonIds" is Many family.Person) ∷ (codes "PartyScopeGpUnitIds" is Many family.Unit)
-    ∷ (codes "ExternalIdentifier" is Identifiers) ∷ []
+    ∷ (codes "LeaderPersonIds" is Many family.Person) ∷ (codes "PartyScopeGpUnitIds" is Many family.Unit) ∷ (codes "ExternalIdentifier" is Identifiers) ∷ []
 
 -- The listed members of Coalition, which is a Party. Both `ContestId` and `ContestIds` are admitted, as two separate
 -- members. (profile)
 abbrev pub coalition_rows : List Row
 coalition_rows =
-    (codes "ContestId" is One family.Contest) ∷ (codes "ContestIds" is Many family.Contest)
-    ∷ (codes "PartyIds" is Many family.Party) ∷ party_rows
+    (codes "ContestId" is One family.Contest) ∷ (codes "ContestIds" is Many family.Contest) ∷ (codes "PartyIds" is Many family.Party) ∷ party_rows
 
 -- The listed members of Person. (class Person)
 abbrev pub person_rows : List Row
@@ -72,8 +70,7 @@ person_rows =
 abbrev pub office_rows : List Row
 office_rows =
     (codes "Name" is Label) ∷ (codes "Description" is Label) ∷ (codes "IsPartisan" is Flag)
-    ∷ (codes "ElectionDistrictId" is One family.Unit) ∷ (codes "OfficeHolderPersonIds" is Many family.Person)
-    ∷ (codes "ExternalIdentifier" is Identifiers) ∷ []
+    ∷ (codes "ElectionDistrictId" is One family.Unit) ∷ (codes "OfficeHolderPersonIds" is Many family.Person) ∷ (codes "ExternalIdentifier" is Identifiers) ∷ []
 
 -- The listed members of Header. (class Header)
 abbrev pub header_rows : List Row
@@ -93,8 +90,7 @@ contest_rows =
     (codes "Name" is Label) ∷ (codes "Abbreviation" is Label) ∷ (codes "BallotTitle" is Label)
     ∷ (codes "BallotSubTitle" is Label) ∷ (codes "ElectionDistrictId" is One family.Unit) ∷ (codes "HasRotation" is Flag)
     ∷ (codes "VoteVariation" is Word) ∷ (codes "OtherVoteVariation" is Word)
-    ∷ (codes "ContestSelection" is Keyed family.Selection) ∷ (codes "OtherCounts" is Outside)
-    ∷ (codes "ExternalIdentifier" is Identifiers) ∷ []
+    ∷ (codes "ContestSelection" is Keyed family.Selection) ∷ (codes "OtherCounts" is Outside) ∷ (codes "ExternalIdentifier" is Identifiers) ∷ []
 
 -- The listed members of CandidateContest. (class CandidateContest)
 abbrev pub candidate_contest_rows : List Row
@@ -122,8 +118,7 @@ selection_rows =
 -- The listed members of CandidateSelection. (class CandidateSelection)
 abbrev pub candidate_selection_rows : List Row
 candidate_selection_rows =
-    (codes "CandidateIds" is Many family.Candidate) ∷ (codes "EndorsementPartyIds" is Many family.Party)
-    ∷ (codes "IsWriteIn" is Flag) ∷ selection_rows
+    (codes "CandidateIds" is Many family.Candidate) ∷ (codes "EndorsementPartyIds" is Many family.Party) ∷ (codes "IsWriteIn" is Flag) ∷ selection_rows
 
 -- The listed members of BallotMeasureSelection. (class BallotMeasureSelection)
 abbrev pub measure_selection_rows : List Row

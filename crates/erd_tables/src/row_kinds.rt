@@ -1,5 +1,8 @@
 ghost use Rattle.std.specs.Prelude.{◌≡◌};
-ghost use Rattle.erd_tables.specs.Rows.{rows_of_class, candidate_contest_rows, candidate_rows, candidate_selection_rows, coalition_rows, contest_rows, election_rows, envelope_rows, header_rows, identifier_rows, label_rows, language_rows, measure_rows, measure_selection_rows, office_rows, ordered_contest_rows, ordered_header_rows, party_rows, party_selection_rows, person_rows, report_rows, retention_rows, selection_rows, style_rows, unit_rows};
+ghost use Rattle.erd_tables.specs.Rows.{rows_of_class, candidate_contest_rows, candidate_rows, candidate_selection_rows, coalition_rows, contest_rows};
+ghost use Rattle.erd_tables.specs.Rows.{election_rows, envelope_rows, header_rows, identifier_rows, label_rows, language_rows, measure_rows};
+ghost use Rattle.erd_tables.specs.Rows.{measure_selection_rows, office_rows, ordered_contest_rows, ordered_header_rows, party_rows, party_selection_rows};
+ghost use Rattle.erd_tables.specs.Rows.{person_rows, report_rows, retention_rows, selection_rows, style_rows, unit_rows};
 ghost use Rattle.erd_tables.specs.Table.{kind_in_rows};
 
 use crate::class::{Class, Family};

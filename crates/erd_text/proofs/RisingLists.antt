@@ -1,5 +1,7 @@
 -- A stable sort gives the rising list: a list in order is determined by what ties with each value, in its order.
-use Rattle.erd_text.proofs.Common.{◌≡◌, suc, Bool, true, false, cond, not, List, [], ◌∷◌, map, filter, IsSorted, is_lt, Ordering, sym, refl, ap, ◌∙◌, subst, add-one, arith, ranks_by, IsStrictWeakOrder, IsTotalOrder, AllByRecursion, IsStable, ties, with_inserted, rising_list, inl, inr, not-true, and_parts, tied_itself, cases_Bool, cond_both, true≢false}
+use Rattle.erd_text.proofs.Common.{◌≡◌, suc, Bool, true, false, cond, not, List, [], ◌∷◌, map, filter, IsSorted, is_lt, Ordering, sym, refl, ap, ◌∙◌, subst}
+use Rattle.erd_text.proofs.Common.{add-one, arith, ranks_by, IsStrictWeakOrder, IsTotalOrder, AllByRecursion, IsStable, ties, with_inserted, rising_list, inl}
+use Rattle.erd_text.proofs.Common.{inr, not-true, and_parts, tied_itself, cases_Bool, cond_both, true≢false}
 
 -- pairs by their keys
 abbrev pub by_first : {K T : Type 0} → (K → K → Ordering) → K × T → K × T → Ordering
@@ -75,19 +77,24 @@ module _ {A : Type 0} (cmp : A → A → Ordering) (order : IsTotalOrder cmp) wh
       let first : x ∷ filter (tied x) xs ≡ y ∷ filter (tied x) ys =
       sym (kept_first x xs) ∙ same x ∙ ap (λ b. cond b (y ∷ filter (tied x) ys) (filter (tied x) ys)) (tied_both x y e f) in
       let one : x ≡ y = cc in
-      let rest : xs ≡ ys = determined xs ys h.1 k.1 (λ z. tails (tied z x) x (filter (tied z) xs) (filter (tied z) ys) (subst (λ w. filter (tied z) (x ∷ xs) ≡ filter (tied z) (w ∷ ys)) (sym one) (same z))) in
+      let rest : xs ≡ ys =
+      determined xs ys h.1 k.1
+      (λ z. tails (tied z x) x (filter (tied z) xs) (filter (tied z) ys)
+      (subst (λ w. filter (tied z) (x ∷ xs) ≡ filter (tied z) (w ∷ ys)) (sym one) (same z))) in
       cc
 
   -- ---- the rising list
 
   none_inserted : (y x : A) (ys : List A) → below x y ≡ false → NoneBelow y ys → NoneBelow y (with_inserted cmp x ys)
   none_inserted y x [] e h = (e, tt)
-  none_inserted y x (z ∷ zs) e h = cond_both (below z x) (z ∷ with_inserted cmp x zs) (x ∷ (z ∷ zs)) (NoneBelow y) (λ _. (h.0, none_inserted y x zs e h.1)) (λ _. (e, h))
+  none_inserted y x (z ∷ zs) e h = cond_both (below z x) (z ∷ with_inserted cmp x zs) (x ∷ (z ∷ zs)) (NoneBelow y)
+      (λ _. (h.0, none_inserted y x zs e h.1)) (λ _. (e, h))
 
   insert_rises : (x : A) (ys : List A) → Rises ys → Rises (with_inserted cmp x ys)
   insert_rises x [] h = (tt, tt)
   insert_rises x (y ∷ ys) h =
-      cond_both (below y x) (y ∷ with_inserted cmp x ys) (x ∷ (y ∷ ys)) Rises (λ e. (none_inserted y x ys (weak.one_way y x e) h.0, insert_rises x ys h.1)) (λ e. ((e, none_further x y ys e h.0), h))
+      cond_both (below y x) (y ∷ with_inserted cmp x ys) (x ∷ (y ∷ ys)) Rises (λ e. (none_inserted y x ys (weak.one_way y x e) h.0, insert_rises x ys h.1))
+      (λ e. ((e, none_further x y ys e h.0), h))
 
   pub list_rises : (xs : List A) → Rises (rising_list cmp xs)
   list_rises [] = tt
@@ -95,8 +102,10 @@ module _ {A : Type 0} (cmp : A → A → Ordering) (order : IsTotalOrder cmp) wh
 
   -- what ties with z, where y is below x, can be taken in either order
   exchanged : (z x y : A) (zs : List A) → below y x ≡ true
-      → cond (tied z y) (y ∷ cond (tied z x) (x ∷ zs) zs) (cond (tied z x) (x ∷ zs) zs) ≡ cond (tied z x) (x ∷ cond (tied z y) (y ∷ zs) zs) (cond (tied z y) (y ∷ zs) zs)
-  exchanged z x y zs e = let apart : tied z y ≡ true → tied z x ≡ true → ⊥ = λ f g. true≢false (sym e ∙ weak.chain y z x (not_below z y f) (not_above z x g)) in grind (arith, apart)
+      → cond (tied z y) (y ∷ cond (tied z x) (x ∷ zs) zs) (cond (tied z x) (x ∷ zs) zs) ≡ cond (tied z x) (x ∷ cond (tied z y) (y ∷ zs) zs)
+      (cond (tied z y) (y ∷ zs) zs)
+  exchanged z x y zs e = let apart : tied z y ≡ true → tied z x ≡ true → ⊥ = λ f g. true≢false (sym e ∙ weak.chain y z x (not_below z y f) (not_above z x g)) in
+      grind (arith, apart)
 
   insert_stable : (z x : A) (ys : List A) → filter (tied z) (with_inserted cmp x ys) ≡ filter (tied z) (x ∷ ys)
   insert_stable z x [] = refl
@@ -126,10 +135,13 @@ module _ {A : Type 0} (cmp : A → A → Ordering) (order : IsTotalOrder cmp) wh
 
 -- ---- through a function
 
-with_inserted_map : {A B : Type 0} (f : A → B) (cmp : B → B → Ordering) (x : A) (ys : List A) → map f (with_inserted (λ a b. cmp (f a) (f b)) x ys) ≡ with_inserted cmp (f x) (map f ys)
+with_inserted_map : {A B : Type 0} (f : A → B) (cmp : B → B → Ordering) (x : A) (ys : List A) → map f (with_inserted (λ a b. cmp (f a) (f b)) x ys)
+    ≡ with_inserted cmp (f x) (map f ys)
 with_inserted_map f cmp x [] = refl
-with_inserted_map f cmp x (y ∷ ys) = elim (cases_Bool (is_lt (cmp (f y) (f x)))) [ inl is ↦ rw is (ap (λ zs. f y ∷ zs) (with_inserted_map f cmp x ys)) | inr is ↦ rw is refl ]
+with_inserted_map f cmp x (y ∷ ys) =
+    elim (cases_Bool (is_lt (cmp (f y) (f x)))) [ inl is ↦ rw is (ap (λ zs. f y ∷ zs) (with_inserted_map f cmp x ys)) | inr is ↦ rw is refl ]
 
-pub rising_list_map : {A B : Type 0} (f : A → B) (cmp : B → B → Ordering) (xs : List A) → map f (rising_list (λ a b. cmp (f a) (f b)) xs) ≡ rising_list cmp (map f xs)
+pub rising_list_map : {A B : Type 0} (f : A → B) (cmp : B → B → Ordering) (xs : List A) → map f (rising_list (λ a b. cmp (f a) (f b)) xs)
+    ≡ rising_list cmp (map f xs)
 rising_list_map f cmp [] = refl
 rising_list_map f cmp (x ∷ xs) = with_inserted_map f cmp x (rising_list (λ a b. cmp (f a) (f b)) xs) ∙ ap (with_inserted cmp (f x)) (rising_list_map f cmp xs)

@@ -1,5 +1,12 @@
 -- Lists in rising order: they have the same entries, they rise, and the position of an entry is its rank.
-use Rattle.erd_text.proofs.Common.{◌≡◌, ℕ, zero, suc, ◌<◌, Bool, cond, List, [], ◌∷◌, ◌++◌, length, get_or, slice_set, Some, None, filter, Option, option_to_list, swap, flat_map, filter_map, IsPermutation, is_lt, Ordering, sym, refl, ap, ◌∙◌, append_assoc, arith, AllByRecursion, cons_option, IsPermutation-refl, IsPermutation-cons, IsPermutation-swap, IsPermutation-sym, IsPermutation-trans, with_inserted, rising_list, IsPermutation-append_left, IsPermutation-append_right, IsPermutation-append_comm, IsPermutation-keeps, sum_by-IsPermutation, cond_both, ◌≤◌, true, false, map, inl, inr, In, ◌⊎◌, subst, length_permutation, slice_get, is_eq, is_gt, Less, Equal, Greater, tied_itself, tied_back, on_total, CmpEqualImpliesEq, IsTotalOrder, IsDistinct, IsStrictlySortedBy, eq_by_cmp, ordering_reverse, ⊤, less, all_from_In, In-all, all_weakened, in_at, compact_cmp, compact_text, nat_list_cmp_total}
+use Rattle.erd_text.proofs.Common.{◌≡◌, ℕ, zero, suc, ◌<◌, Bool, cond, List, [], ◌∷◌, ◌++◌, length, get_or, slice_set, Some, None, filter, Option}
+use Rattle.erd_text.proofs.Common.{option_to_list, swap, flat_map, filter_map, IsPermutation, is_lt, Ordering, sym, refl, ap, ◌∙◌, append_assoc, arith}
+use Rattle.erd_text.proofs.Common.{AllByRecursion, cons_option, IsPermutation-refl, IsPermutation-cons, IsPermutation-swap, IsPermutation-sym}
+use Rattle.erd_text.proofs.Common.{IsPermutation-trans, with_inserted, rising_list, IsPermutation-append_left, IsPermutation-append_right}
+use Rattle.erd_text.proofs.Common.{IsPermutation-append_comm, IsPermutation-keeps, sum_by-IsPermutation, cond_both, ◌≤◌, true, false, map, inl, inr, In, ◌⊎◌}
+use Rattle.erd_text.proofs.Common.{subst, length_permutation, slice_get, is_eq, is_gt, Less, Equal, Greater, tied_itself, tied_back, on_total}
+use Rattle.erd_text.proofs.Common.{CmpEqualImpliesEq, IsTotalOrder, IsDistinct, IsStrictlySortedBy, eq_by_cmp, ordering_reverse, ⊤, less, all_from_In, In-all}
+use Rattle.erd_text.proofs.Common.{all_weakened, in_at, compact_cmp, compact_text, nat_list_cmp_total}
 use Rattle.std.proofs.lemmas.List.Sums.{length-filter}
 use Rattle.erd_text.proofs.RisingLists.{Rises, list_rises}
 
@@ -20,8 +27,10 @@ reordered_rising cmp (x ∷ xs) = IsPermutation-trans _ _ _ (IsPermutation-cons 
 
 -- what holds of a list and itself, under a further entry, of two exchanged entries, and from list to list, holds of lists with
 -- the same entries
-module _ {A : Type 0} (P : List A → List A → Type 0) (same : (xs : List A) → P xs xs) (kept : (x : A) (xs ys : List A) → IsPermutation xs ys → P xs ys → P (x ∷ xs) (x ∷ ys))
-    (exchanged : (x y : A) (xs : List A) → P (x ∷ (y ∷ xs)) (y ∷ (x ∷ xs))) (chain : (xs ys zs : List A) → IsPermutation xs ys → P xs ys → P ys zs → P xs zs) where
+module _ {A : Type 0} (P : List A → List A → Type 0) (same : (xs : List A) → P xs xs)
+    (kept : (x : A) (xs ys : List A) → IsPermutation xs ys → P xs ys → P (x ∷ xs) (x ∷ ys))
+    (exchanged : (x y : A) (xs : List A) → P (x ∷ (y ∷ xs)) (y ∷ (x ∷ xs)))
+    (chain : (xs ys zs : List A) → IsPermutation xs ys → P xs ys → P ys zs → P xs zs) where
   abbrev Along : List A → List A → Type 0
   Along xs ys = IsPermutation xs ys × P xs ys
 
@@ -49,7 +58,8 @@ module _ {A : Type 0} (P : List A → List A → Type 0) (same : (xs : List A) �
   swapped (x ∷ xs) i j low high = both_set x (x ∷ xs) i j low high
 
   pub along_permutation : {xs ys : List A} → IsPermutation xs ys → P xs ys
-  along_permutation {xs} {ys} h = (IsPermutation-keeps xs (Along xs) (IsPermutation-refl xs, same xs) (λ l i j low high k. link k (swapped l i j low high)) ys h).1
+  along_permutation {xs} {ys} h =
+      (IsPermutation-keeps xs (Along xs) (IsPermutation-refl xs, same xs) (λ l i j low high k. link k (swapped l i j low high)) ys h).1
 
 -- ---- what is made of lists with the same entries
 
@@ -89,11 +99,13 @@ count-reordered test {xs} {ys} h = length-filter test xs ∙ sym (sum_by-IsPermu
 
 -- what holds of all entries
 pub all-reordered : {A : Type 0} (P : A → Type 0) {xs ys : List A} → IsPermutation xs ys → AllByRecursion P xs → AllByRecursion P ys
-all-reordered P = along_permutation (λ xs ys. AllByRecursion P xs → AllByRecursion P ys) (λ xs all. all) (λ x xs ys p h all. (all.0, h all.1)) (λ x y xs all. (all.1.0, (all.0, all.1.1))) (λ xs ys zs p h k all. k (h all))
+all-reordered P = along_permutation (λ xs ys. AllByRecursion P xs → AllByRecursion P ys) (λ xs all. all) (λ x xs ys p h all. (all.0, h all.1))
+    (λ x y xs all. (all.1.0, (all.0, all.1.1))) (λ xs ys zs p h k all. k (h all))
 
 -- what stands in the list
 pub reordered-In : {A : Type 0} {xs ys : List A} (z : A) → IsPermutation xs ys → In z xs → In z ys
-reordered-In {xs = xs} {ys = ys} z h i = In-all (λ z. In z ys) z xs (all-reordered (λ z. In z ys) (IsPermutation-sym xs ys h) (all_from_In (λ z. In z ys) ys (λ w j. j))) i
+reordered-In {xs = xs} {ys = ys} z h i =
+    In-all (λ z. In z ys) z xs (all-reordered (λ z. In z ys) (IsPermutation-sym xs ys h) (all_from_In (λ z. In z ys) ys (λ w j. j))) i
 
 -- ---- a test that passes more
 
@@ -173,9 +185,11 @@ module _ {A : Type 0} {cmp : A → A → Ordering} (order : IsTotalOrder cmp) wh
   lesser_first x y (z ∷ zs) e = lesser_at x y z zs (is_lt (cmp z x)) (is_lt (cmp z y)) e refl refl (lesser_first x y zs e)
 
   module _ (exact : CmpEqualImpliesEq cmp) where
-    exchanged_at : (x y : A) (zs : List A) (o : Ordering) → cmp x y ≡ o → with_inserted cmp x (with_inserted cmp y zs) ≡ with_inserted cmp y (with_inserted cmp x zs)
+    exchanged_at : (x y : A) (zs : List A) (o : Ordering) → cmp x y ≡ o → with_inserted cmp x (with_inserted cmp y zs) ≡ with_inserted cmp y
+        (with_inserted cmp x zs)
     exchanged_at x y zs Less e = lesser_first x y zs e
-    exchanged_at x y zs Equal e = let same : x ≡ y = exact x y e in ap (λ w. with_inserted cmp w (with_inserted cmp y zs)) same ∙ ap (λ w. with_inserted cmp y (with_inserted cmp w zs)) (sym same)
+    exchanged_at x y zs Equal e = let same : x ≡ y = exact x y e in ap (λ w. with_inserted cmp w (with_inserted cmp y zs)) same
+        ∙ ap (λ w. with_inserted cmp y (with_inserted cmp w zs)) (sym same)
     exchanged_at x y zs Greater e = sym (lesser_first y x zs (greater_turned order x y e))
 
     pub inserted_exchange : (x y : A) (zs : List A) → with_inserted cmp x (with_inserted cmp y zs) ≡ with_inserted cmp y (with_inserted cmp x zs)
@@ -211,11 +225,13 @@ NeverFalls cmp (x ∷ xs) = AllByRecursion (λ y. is_gt (cmp x y) ≡ false) xs 
 module _ {A : Type 0} {cmp : A → A → Ordering} (order : IsTotalOrder cmp) where
   -- ---- lists that rise strictly
 
-  inserted_strictly_at : (x y : A) (ys : List A) (o : Ordering) → cmp y x ≡ o → IsStrictlySortedBy cmp (y ∷ ys) → AllByRecursion (λ z. eq_by_cmp cmp x z ≡ false) (y ∷ ys)
+  inserted_strictly_at : (x y : A) (ys : List A) (o : Ordering) → cmp y x ≡ o → IsStrictlySortedBy cmp (y ∷ ys)
+      → AllByRecursion (λ z. eq_by_cmp cmp x z ≡ false) (y ∷ ys)
       → IsStrictlySortedBy cmp (with_inserted cmp x ys) → IsStrictlySortedBy cmp (cond (is_lt o) (y ∷ with_inserted cmp x ys) (x ∷ (y ∷ ys)))
   unfolding IsStrictlySortedBy
   inserted_strictly_at x y ys Less is rise apart more =
-      let below : (z : A) → In z (with_inserted cmp x ys) → cmp y z ≡ Less = λ z i. elim (In-inserted cmp x z ys i) [ inl e ↦ subst (λ w. cmp y w ≡ Less) e is | inr k ↦ In-all (λ w. cmp y w ≡ Less) z ys rise.0 k ] in
+      let below : (z : A) → In z (with_inserted cmp x ys) → cmp y z ≡ Less =
+      λ z i. elim (In-inserted cmp x z ys i) [ inl e ↦ subst (λ w. cmp y w ≡ Less) e is | inr k ↦ In-all (λ w. cmp y w ≡ Less) z ys rise.0 k ] in
       (all_from_In (λ z. cmp y z ≡ Less) (with_inserted cmp x ys) below, more)
   inserted_strictly_at x y ys Equal is rise apart more = absurd (level (cmp x y) apart.0 (tied_back order y x is))
   inserted_strictly_at x y ys Greater is rise apart more =
@@ -223,7 +239,8 @@ module _ {A : Type 0} {cmp : A → A → Ordering} (order : IsTotalOrder cmp) wh
       let below : (z : A) → In z ys → cmp x z ≡ Less = λ z i. order.trans x y z first (In-all (λ w. cmp y w ≡ Less) z ys rise.0 i) in
       ((first, all_from_In (λ z. cmp x z ≡ Less) ys below), rise)
 
-  pub inserted_strictly : (x : A) (ys : List A) → IsStrictlySortedBy cmp ys → AllByRecursion (λ z. eq_by_cmp cmp x z ≡ false) ys → IsStrictlySortedBy cmp (with_inserted cmp x ys)
+  pub inserted_strictly : (x : A) (ys : List A) → IsStrictlySortedBy cmp ys → AllByRecursion (λ z. eq_by_cmp cmp x z ≡ false) ys
+      → IsStrictlySortedBy cmp (with_inserted cmp x ys)
   unfolding IsStrictlySortedBy
   inserted_strictly x [] rise apart = (tt, tt)
   inserted_strictly x (y ∷ ys) rise apart = inserted_strictly_at x y ys (cmp y x) refl rise apart (inserted_strictly x ys rise.1 apart.1)
@@ -233,7 +250,8 @@ module _ {A : Type 0} {cmp : A → A → Ordering} (order : IsTotalOrder cmp) wh
   unfolding IsStrictlySortedBy IsDistinct
   rising_strictly [] h = tt
   rising_strictly (x ∷ xs) h =
-      let apart = all_from_In (λ z. eq_by_cmp cmp x z ≡ false) (rising_list cmp xs) (λ z i. In-all (λ z. eq_by_cmp cmp x z ≡ false) z xs h.0 (In-rising cmp z xs i)) in
+      let apart = all_from_In (λ z. eq_by_cmp cmp x z ≡ false) (rising_list cmp xs)
+      (λ z i. In-all (λ z. eq_by_cmp cmp x z ≡ false) z xs h.0 (In-rising cmp z xs i)) in
       inserted_strictly x (rising_list cmp xs) (rising_strictly xs h.1) apart
 
   -- ---- lists that don't fall
@@ -302,7 +320,8 @@ module _ {A : Type 0} {cmp : A → A → Ordering} (order : IsTotalOrder cmp) wh
   -- an entry stands at the position that is its rank
   pub stands_at_rank : (xs : List A) (x : A) → IsDistinct (eq_by_cmp cmp) xs → In x xs → slice_get (rising_list cmp xs) (rank_in cmp x xs) ≡ Some x
   stands_at_rank xs x apart i =
-      ap (slice_get (rising_list cmp xs)) (sym (count-rising cmp (λ y. is_lt (cmp y x)) xs)) ∙ stands_at_strictly (rising_list cmp xs) x (rising_strictly order xs apart) (rising-In cmp x xs i)
+      ap (slice_get (rising_list cmp xs)) (sym (count-rising cmp (λ y. is_lt (cmp y x)) xs)) ∙ stands_at_strictly (rising_list cmp xs) x
+      (rising_strictly order xs apart) (rising-In cmp x xs i)
 
 -- ranks by a part of the entries, where the entries are the values of a map
 pub rank_map : {A B K : Type 0} (f : A → B) (key : B → K) (cmp : K → K → Ordering) (k : K) (xs : List A)
@@ -310,7 +329,8 @@ pub rank_map : {A B K : Type 0} (f : A → B) (key : B → K) (cmp : K → K →
 rank_map f key cmp k xs = count_map f (λ b. is_lt (cmp (key b) k)) xs
 
 -- the rank of the entry at a position, by a part of the entries
-pub rank_by_at : {A K : Type 0} (key : A → K) (cmp : K → K → Ordering) → IsTotalOrder cmp → (xs : List A) (i : ℕ) (x : A) → IsDistinct (λ a b. eq_by_cmp cmp (key a) (key b)) xs
+pub rank_by_at : {A K : Type 0} (key : A → K) (cmp : K → K → Ordering) → IsTotalOrder cmp → (xs : List A) (i : ℕ) (x : A)
+    → IsDistinct (λ a b. eq_by_cmp cmp (key a) (key b)) xs
     → slice_get (rising_list (λ a b. cmp (key a) (key b)) xs) i ≡ Some x → length (filter (λ y. is_lt (cmp (key y) (key x))) xs) ≡ i
 rank_by_at key cmp order xs i x apart e = rank_at (on_total key order) xs i x apart e
 

@@ -1,5 +1,8 @@
 -- The parts of a value that has no fraction have none.
-use Rattle.erd_text.proofs.Common.{◌≡◌, ℕ, zero, suc, ◌<◌, false, List, [], ◌∷◌, map, length, Some, None, Option, Ordering, sym, refl, ap, ◌∙◌, subst, arith, AllByRecursion, option_map_or, Data, array, object, Items, no_items, item, Members, no_members, member, get_member, get, items_of, view, items_view, members_view, Value, list_of_items, entries_of, get_or, or_parts, has_float, items_have_float, members_have_float, entries_at, rising_list, Entry}
+use Rattle.erd_text.proofs.Common.{◌≡◌, ℕ, zero, suc, ◌<◌, false, List, [], ◌∷◌, map, length, Some, None, Option, Ordering, sym, refl, ap, ◌∙◌, subst, arith}
+use Rattle.erd_text.proofs.Common.{AllByRecursion, option_map_or, Data, array, object, Items, no_items, item, Members, no_members, member, get_member, get}
+use Rattle.erd_text.proofs.Common.{items_of, view, items_view, members_view, Value, list_of_items, entries_of, get_or, or_parts, has_float, items_have_float}
+use Rattle.erd_text.proofs.Common.{members_have_float, entries_at, rising_list, Entry}
 use Rattle.erd_text.proofs.RisingOrders.{all_rising}
 use Rattle.erd_check.proofs.Shapes.{found_cases}
 
@@ -40,7 +43,8 @@ whole_at (w ∷ vs) zero v h low e = subst (λ u. has_float (view u) ≡ false) 
 whole_at (w ∷ vs) (suc i) v h low e = whole_at vs i v h.1 (omega arith) e
 
 -- an entry of the array of a member
-pub whole_entry : (name : List ℕ) (d : Data) (vs : List Value) (i : ℕ) (v : Value) → has_float d ≡ false → map view vs ≡ entries_at name d → i < length vs → v ≡ get_or vs i v → has_float (view v) ≡ false
+pub whole_entry : (name : List ℕ) (d : Data) (vs : List Value) (i : ℕ) (v : Value) → has_float d ≡ false → map view vs ≡ entries_at name d → i < length vs
+    → v ≡ get_or vs i v → has_float (view v) ≡ false
 whole_entry name d vs i v h is low e = whole_at vs i v (subst AreWhole (sym is) (whole_entries name d h)) low e
 
 -- one by one, and back
@@ -57,20 +61,26 @@ pub whole_list : (d : Data) (vs : List Value) → has_float d ≡ false → map 
 whole_list d vs h is = from_all_whole (map view vs) (subst AreWhole (sym is) (whole_entries_of d h))
 
 -- one of them
-pub whole_item : (vs : List Value) (i : ℕ) (v : Value) → items_have_float (items_view vs) ≡ false → i < length vs → v ≡ get_or vs i v → has_float (view v) ≡ false
+pub whole_item : (vs : List Value) (i : ℕ) (v : Value) → items_have_float (items_view vs) ≡ false → i < length vs → v ≡ get_or vs i v
+    → has_float (view v) ≡ false
 whole_item vs i v h low e = whole_at vs i v (all_whole (map view vs) h) low e
 
 -- the entries of an array that is a member
-pub whole_list_at : (name : List ℕ) (d : Data) (vs : List Value) → has_float d ≡ false → map view vs ≡ entries_at name d → items_have_float (items_view vs) ≡ false
+pub whole_list_at : (name : List ℕ) (d : Data) (vs : List Value) → has_float d ≡ false → map view vs ≡ entries_at name d
+    → items_have_float (items_view vs) ≡ false
 whole_list_at name d vs h is = from_all_whole (map view vs) (subst AreWhole (sym is) (whole_entries name d h))
 
 -- of the members that are left, the first and those after it
 pub whole_first : (left rest : List Entry) (e : Entry) → left ≡ e ∷ rest → members_have_float (members_view left) ≡ false → has_float (view e.1) ≡ false
-whole_first left rest e split h = (or_parts (has_float (view e.1)) (members_have_float (members_view rest)) (ap (λ es. members_have_float (members_view es)) (sym split) ∙ h)).0
+whole_first left rest e split h =
+    (or_parts (has_float (view e.1)) (members_have_float (members_view rest)) (ap (λ es. members_have_float (members_view es)) (sym split) ∙ h)).0
 
-pub whole_rest : (left rest : List Entry) (e : Entry) → left ≡ e ∷ rest → members_have_float (members_view left) ≡ false → members_have_float (members_view rest) ≡ false
-whole_rest left rest e split h = (or_parts (has_float (view e.1)) (members_have_float (members_view rest)) (ap (λ es. members_have_float (members_view es)) (sym split) ∙ h)).1
+pub whole_rest : (left rest : List Entry) (e : Entry) → left ≡ e ∷ rest → members_have_float (members_view left) ≡ false
+    → members_have_float (members_view rest) ≡ false
+whole_rest left rest e split h =
+    (or_parts (has_float (view e.1)) (members_have_float (members_view rest)) (ap (λ es. members_have_float (members_view es)) (sym split) ∙ h)).1
 
 -- in rising order
-pub whole_rising : (cmp : Data → Data → Ordering) (ds : List Data) → items_have_float (items_of ds) ≡ false → items_have_float (items_of (rising_list cmp ds)) ≡ false
+pub whole_rising : (cmp : Data → Data → Ordering) (ds : List Data) → items_have_float (items_of ds) ≡ false
+    → items_have_float (items_of (rising_list cmp ds)) ≡ false
 whole_rising cmp ds h = from_all_whole (rising_list cmp ds) (all_rising (λ d. has_float d ≡ false) cmp ds (all_whole ds h))

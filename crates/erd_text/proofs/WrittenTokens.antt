@@ -1,5 +1,6 @@
 -- Tokens that are written one value after another.
-use Rattle.erd_text.proofs.Common.{◌≡◌, ℕ, List, [], ◌∷◌, ◌++◌, string_bytes, sym, refl, ap, ◌∙◌, append_assoc, Data, view, members_view, Entry, members_tokens, value_tokens}
+use Rattle.erd_text.proofs.Common.{◌≡◌, ℕ, List, [], ◌∷◌, ◌++◌, string_bytes, sym, refl, ap, ◌∙◌, append_assoc, Data, view, members_view, Entry, members_tokens}
+use Rattle.erd_text.proofs.Common.{value_tokens}
 use Rattle.json.specs.Token.{Token, key}
 
 -- one more piece, and then the rest

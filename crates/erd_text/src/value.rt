@@ -53,7 +53,8 @@ fn write_items(items: &Vec<Value>, out: &mut Output) -> Result<(), AllocError>
 /// Writes the members of an object, and its end.
 #[cycle(copy)]
 fn write_members(members: &Map<String, Value>, out: &mut Output) -> Result<(), AllocError>
-    ensures { OnOk result (members_have_float (members_view members.now.entries) ≡ false → out.new ≡ out.old ++ members_tokens (members_view members.now.entries)) }
+    ensures { OnOk result (members_have_float (members_view members.now.entries) ≡ false → out.new ≡ out.old
+        ++ members_tokens (members_view members.now.entries)) }
 {
     for (name, member) in members.iter() {
         out.key(name.as_str())?;

@@ -96,8 +96,8 @@ less_tied d e f h k =
 
 -- ---- what is less than a lesser value is less
 
-then_less : (a b c x y z : Ordering) → (a ≡ Less → b ≡ Less → c ≡ Less) → (a ≡ Less → b ≡ Equal → c ≡ Less) → (a ≡ Equal → c ≡ b) → (x ≡ Less → y ≡ Less → z ≡ Less)
-    → ordering_then a x ≡ Less → ordering_then b y ≡ Less → ordering_then c z ≡ Less
+then_less : (a b c x y z : Ordering) → (a ≡ Less → b ≡ Less → c ≡ Less) → (a ≡ Less → b ≡ Equal → c ≡ Less) → (a ≡ Equal → c ≡ b)
+    → (x ≡ Less → y ≡ Less → z ≡ Less) → ordering_then a x ≡ Less → ordering_then b y ≡ Less → ordering_then c z ≡ Less
 then_less Less Less c x y z both tied same rest h k = rw (both refl refl) refl
 then_less Less Equal c x y z both tied same rest h k = rw (tied refl refl) refl
 then_less Less Greater c x y z both tied same rest h k = cc
@@ -128,11 +128,13 @@ kinds d e h = inl h
 
 first_apart : (d e f : Data) → nat_cmp (kind_number d) (kind_number e) ≡ Less → json_cmp e f ≡ Less → json_cmp d f ≡ Less
 first_apart d e f h k =
-    ⊎_elim (λ low. by_kind d f (nat_cmp_total.trans (kind_number d) (kind_number e) (kind_number f) h low)) (λ same. by_kind d f (subst (λ n. nat_cmp (kind_number d) n ≡ Less) same h)) (kinds e f k)
+    ⊎_elim (λ low. by_kind d f (nat_cmp_total.trans (kind_number d) (kind_number e) (kind_number f) h low))
+    (λ same. by_kind d f (subst (λ n. nat_cmp (kind_number d) n ≡ Less) same h)) (kinds e f k)
 
 last_apart : (d e f : Data) → json_cmp d e ≡ Less → nat_cmp (kind_number e) (kind_number f) ≡ Less → json_cmp d f ≡ Less
 last_apart d e f h k =
-    ⊎_elim (λ low. by_kind d f (nat_cmp_total.trans (kind_number d) (kind_number e) (kind_number f) low k)) (λ same. by_kind d f (subst (λ n. nat_cmp n (kind_number f) ≡ Less) (sym same) k)) (kinds d e h)
+    ⊎_elim (λ low. by_kind d f (nat_cmp_total.trans (kind_number d) (kind_number e) (kind_number f) low k))
+    (λ same. by_kind d f (subst (λ n. nat_cmp n (kind_number f) ≡ Less) (sym same) k)) (kinds d e h)
 
 mutual
   less : (d e f : Data) → json_cmp d e ≡ Less → json_cmp e f ≡ Less → json_cmp d f ≡ Less
@@ -155,7 +157,8 @@ mutual
   items_less (item d ds) no_items fs h k = cc
   items_less (item d ds) (item e es) no_items h k = cc
   items_less (item d ds) (item e es) (item f fs) h k =
-      then_less (json_cmp d e) (json_cmp e f) (json_cmp d f) (items_cmp ds es) (items_cmp es fs) (items_cmp ds fs) (less d e f) (less_tied d e f) (alike d e f) (items_less ds es fs) h k
+      then_less (json_cmp d e) (json_cmp e f) (json_cmp d f) (items_cmp ds es) (items_cmp es fs) (items_cmp ds fs) (less d e f) (less_tied d e f) (alike d e f)
+      (items_less ds es fs) h k
 
   members_less : (ms ns os : Members) → members_cmp ms ns ≡ Less → members_cmp ns os ≡ Less → members_cmp ms os ≡ Less
   members_less no_members no_members no_members h k = h
@@ -164,8 +167,10 @@ mutual
   members_less (member k d ms) no_members os h i = cc
   members_less (member k d ms) (member l e ns) no_members h i = cc
   members_less (member k d ms) (member l e ns) (member j f os) h i =
-      then_less (text_cmp k l) (text_cmp l j) (text_cmp k j) _ _ _ (nat_list_cmp_total.trans k l j) (λ low tied. sym (alike_right nat_list_cmp_total l j k tied) ∙ low) (nat_list_cmp_total.congr k l j)
-      (then_less (json_cmp d e) (json_cmp e f) (json_cmp d f) (members_cmp ms ns) (members_cmp ns os) (members_cmp ms os) (less d e f) (less_tied d e f) (alike d e f) (members_less ms ns os)) h i
+      then_less (text_cmp k l) (text_cmp l j) (text_cmp k j) _ _ _ (nat_list_cmp_total.trans k l j)
+      (λ low tied. sym (alike_right nat_list_cmp_total l j k tied) ∙ low) (nat_list_cmp_total.congr k l j)
+      (then_less (json_cmp d e) (json_cmp e f) (json_cmp d f) (members_cmp ms ns) (members_cmp ns os) (members_cmp ms os) (less d e f) (less_tied d e f)
+      (alike d e f) (members_less ms ns os)) h i
 
 pub json_cmp_total : IsTotalOrder json_cmp
 json_cmp_total = record { antisymm = reversed; trans = less; congr = alike }

@@ -2,7 +2,8 @@
 use Rattle.std.specs.Prelude.{List, [], ◌∷◌, ◌++◌, Bool, false, map, filter, IsTrue}
 use Rattle.serde_json.specs.Data.{Data}
 use Rattle.erd_tables.specs.declared.fault.Reason.{Reason}
-use Rattle.erd_tables.specs.declared.fault.Reason.TheVariants.{WrongKind, MissingMember, WrongClassText, NotWhole, OutsideProfile, UnknownReference, CarriedIdentity, NotPreElection, ElectionCount, EmptyArray, Repeated}
+use Rattle.erd_tables.specs.declared.fault.Reason.TheVariants.{WrongKind, MissingMember, WrongClassText, NotWhole, OutsideProfile, UnknownReference}
+use Rattle.erd_tables.specs.declared.fault.Reason.TheVariants.{CarriedIdentity, NotPreElection, ElectionCount, EmptyArray, Repeated}
 use Rattle.erd_check.specs.Numbers.{IsInRange}
 use Rattle.erd_check.specs.Wants.{Asked, scope_inside}
 use Rattle.erd_check.specs.Faults.{is_shape_fault, names_wanted, lacks, wants_whole}
@@ -20,7 +21,8 @@ missing s d = map MissingMember (filter (lacks d) (names_wanted s))
 -- The reasons that one value alone gives, apart from the wrong kind, missing members and repetition.
 abbrev pub other_reasons : Want → Data → List Reason
 other_reasons w d =
-    filter (is_shape_fault (asked_with w false d)) (WrongClassText ∷ NotWhole ∷ OutsideProfile ∷ UnknownReference ∷ CarriedIdentity ∷ NotPreElection ∷ ElectionCount ∷ EmptyArray ∷ [])
+    filter (is_shape_fault (asked_with w false d)) (WrongClassText ∷ NotWhole ∷ OutsideProfile ∷ UnknownReference ∷ CarriedIdentity ∷ NotPreElection
+    ∷ ElectionCount ∷ EmptyArray ∷ [])
 
 -- The reasons that one value gives, in the order of reasons.
 abbrev pub reasons : Want → Bool → Data → List Reason

@@ -1,5 +1,13 @@
 -- A selection means what an object with its members does, and the selections of a contest are those of its record.
-use Rattle.erd_compare.proofs.Common.{◌≡◌, ℕ, Bool, true, false, List, [], codes, Some, None, Option, option_map, option_and_then, sym, refl, ap, ◌∙◌, inl, inr, fun_ext, Data, array, no_items, item, get, view, entries_of, entries_at, role_of_class, kind_of_member, Class, family, role, MemberKind, kind, PlainValue, MemberValue, a_plain, a_selection_map, ObjectRecord, SelectionRecord, Preference, Judged, Placed, NameParts, key_in, plain_member, member_of_class, member_value, unless_empty, object_record, selection_record, selection_map, selection_role, name_of, name_in_class, key_named, meaning, record_at, How, Member, OnlyLeft, OnlyRight, OtherClass, DifferIn, AgreeBut, Key, HasKeyAt, IsComparable, holder_key_in, other_than_election, part, slice_get, same_Some, key_with_role, unwrap_or, contests, ◌+◌, cond, ◌==◌, ap₂, subst, slice_get-map, Decides-eqb, selections_of_contest, objects, numbered_selections, option_map-Some, in_at, AreSelectionsIn, selections_before, IsWholeTree, IsPlaced}
+use Rattle.erd_compare.proofs.Common.{◌≡◌, ℕ, Bool, true, false, List, [], codes, Some, None, Option, option_map, option_and_then, sym, refl, ap, ◌∙◌, inl, inr}
+use Rattle.erd_compare.proofs.Common.{fun_ext, Data, array, no_items, item, get, view, entries_of, entries_at, role_of_class, kind_of_member, Class, family}
+use Rattle.erd_compare.proofs.Common.{role, MemberKind, kind, PlainValue, MemberValue, a_plain, a_selection_map, ObjectRecord, SelectionRecord, Preference}
+use Rattle.erd_compare.proofs.Common.{Judged, Placed, NameParts, key_in, plain_member, member_of_class, member_value, unless_empty, object_record}
+use Rattle.erd_compare.proofs.Common.{selection_record, selection_map, selection_role, name_of, name_in_class, key_named, meaning, record_at, How, Member}
+use Rattle.erd_compare.proofs.Common.{OnlyLeft, OnlyRight, OtherClass, DifferIn, AgreeBut, Key, HasKeyAt, IsComparable, holder_key_in, other_than_election}
+use Rattle.erd_compare.proofs.Common.{part, slice_get, same_Some, key_with_role, unwrap_or, contests, ◌+◌, cond, ◌==◌, ap₂, subst, slice_get-map, Decides-eqb}
+use Rattle.erd_compare.proofs.Common.{selections_of_contest, objects, numbered_selections, option_map-Some, in_at, AreSelectionsIn, selections_before}
+use Rattle.erd_compare.proofs.Common.{IsWholeTree, IsPlaced}
 use Rattle.erd_check.specs.Wants.{class_of_object}
 use Rattle.erd_check.proofs.Positions.{and_then-Some}
 use Rattle.erd_meaning.specs.Lookups.{FindsKey, selection_in}
@@ -25,17 +33,21 @@ abbrev selection_in_class : Preference → Data → Data → Class → Selection
 selection_in_class π tree d c = record { class = c; members = plain_member π tree d c }
 
 -- members of a kind other than selections mean what they do by themselves
-plain_kind : (π : Preference) (tree : Data) (k : MemberKind) (found : Option Data) (p : Option PlainValue) → is_selections k ≡ false → member_value π tree k found p ≡ option_map a_plain p
+plain_kind : (π : Preference) (tree : Data) (k : MemberKind) (found : Option Data) (p : Option PlainValue) → is_selections k ≡ false
+    → member_value π tree k found p ≡ option_map a_plain p
 plain_kind π tree (kind.Keyed family.Selection) found p is = cc
 plain_kind π tree k found p is = refl
 
 -- a selection holds no selections
-plain_in : (π : Preference) (tree d : Data) (c : Class) → role_of_class c ≡ selection_role → member_of_class π tree d c ≡ (λ name. option_map a_plain (plain_member π tree d c name))
+plain_in : (π : Preference) (tree d : Data) (c : Class) → role_of_class c ≡ selection_role → member_of_class π tree d c
+    ≡ (λ name. option_map a_plain (plain_member π tree d c name))
 plain_in π tree d c its = fun_ext (λ name. at name (is_selections (kind_of_member c name)) refl)
   where
-    at : (name : List ℕ) (b : Bool) → is_selections (kind_of_member c name) ≡ b → member_of_class π tree d c name ≡ option_map a_plain (plain_member π tree d c name)
+    at : (name : List ℕ) (b : Bool) → is_selections (kind_of_member c name) ≡ b → member_of_class π tree d c name
+        ≡ option_map a_plain (plain_member π tree d c name)
     at name true is =
-        let clash : family.Selection ≡ family.Contest = selections_family c family.Selection its (ap (λ n. is_selections (kind_of_member c n)) (sym (selections_name c name is)) ∙ is) in
+        let clash : family.Selection ≡ family.Contest = selections_family c family.Selection its
+        (ap (λ n. is_selections (kind_of_member c n)) (sym (selections_name c name is)) ∙ is) in
         cc
     at name false is = plain_kind π tree (kind_of_member c name) (get name d) (plain_member π tree d c name) is
 
@@ -89,7 +101,8 @@ entries_found (Some v) = entries_of v
 
 module _ (π : Preference) (tree : Data) where
   -- the selections that a member of their kind means
-  meant : (o : Option Data) → selections_in_member (option_and_then (λ v. unless_empty (a_selection_map (selection_map π tree (entries_of v))) v) o) ≡ selection_map π tree (entries_found o)
+  meant : (o : Option Data) → selections_in_member (option_and_then (λ v. unless_empty (a_selection_map (selection_map π tree (entries_of v))) v) o)
+      ≡ selection_map π tree (entries_found o)
   meant None = fun_ext (λ n. refl)
   meant (Some (array no_items)) = fun_ext (λ n. refl)
   meant (Some (array (item d ds))) = refl
@@ -103,7 +116,8 @@ module _ (π : Preference) (tree : Data) where
       at (Some v) is = rw is refl
 
   -- the selections of a record that is that of a contest
-  of_record : (d : Data) (r : ObjectRecord) → object_record π tree (role.OfFamily family.Contest) d ≡ Some r → selections_in_member (r.members (codes "ContestSelection")) ≡ selection_map π tree (entries_at (codes "ContestSelection") d)
+  of_record : (d : Data) (r : ObjectRecord) → object_record π tree (role.OfFamily family.Contest) d ≡ Some r
+      → selections_in_member (r.members (codes "ContestSelection")) ≡ selection_map π tree (entries_at (codes "ContestSelection") d)
   of_record d r is = at (class_of_object (role.OfFamily family.Contest) d) refl is
     where
       at : (o : Option Class) → class_of_object (role.OfFamily family.Contest) d ≡ o → option_map (object_in π tree d) o ≡ Some r
@@ -112,7 +126,8 @@ module _ (π : Preference) (tree : Data) where
       at (Some c) class e =
           let same : object_in π tree d c ≡ r = same_Some (object_in π tree d c) r e in
           ap (λ (x : ObjectRecord). selections_in_member (x.members (codes "ContestSelection"))) (sym same)
-          ∙ (ap (λ k. selections_in_member (member_value π tree k (get (codes "ContestSelection") d) (plain_member π tree d c (codes "ContestSelection")))) (contest_selections c (class_role (role.OfFamily family.Contest) d c class))
+          ∙ (ap (λ k. selections_in_member (member_value π tree k (get (codes "ContestSelection") d) (plain_member π tree d c (codes "ContestSelection"))))
+          (contest_selections c (class_role (role.OfFamily family.Contest) d c class))
           ∙ (meant (get (codes "ContestSelection") d) ∙ ap (selection_map π tree) (found_entries (codes "ContestSelection") d)))
 
 -- ---- the contest with a key
@@ -126,7 +141,8 @@ module _ (a : Judged) (comparable : IsComparable a.prefer (view a.tree)) where
 
   -- a meaning without a record has no selections
   no_record : (k : Option Key) → record_at (meaning π tree) part.Contest k ≡ None → contest_map a None ≡ selections_with_key (meaning π tree) k
-  no_record k none = sym (ap (λ (o : Option ObjectRecord). selections_in_member (option_and_then (λ r. r.members (codes "ContestSelection")) o)) none ∙ fun_ext (λ n. refl))
+  no_record k none =
+      sym (ap (λ (o : Option ObjectRecord). selections_in_member (option_and_then (λ r. r.members (codes "ContestSelection")) o)) none ∙ fun_ext (λ n. refl))
 
   pub without_key : contest_map a None ≡ selections_with_key (meaning π tree) None
   without_key = no_record None refl
@@ -138,7 +154,8 @@ module _ (a : Judged) (comparable : IsComparable a.prefer (view a.tree)) where
       key_here i h = ap (option_and_then (λ (o : Placed). key_with_role π (role.OfFamily family.Contest) o.value)) h.stands ∙ h.key
 
       stands_here : (i : ℕ) → key_in π family.Contest tree i ≡ Some k → HasKeyAt π tree (role.OfFamily family.Contest) i (Some k)
-      stands_here i e = let o = and_then-Some (λ (o : Placed). key_with_role π (role.OfFamily family.Contest) o.value) (slice_get (contests tree) i) k e in record { object = o.0; stands = o.1; key = o.2 }
+      stands_here i e = let o = and_then-Some (λ (o : Placed). key_with_role π (role.OfFamily family.Contest) o.value) (slice_get (contests tree) i) k e in
+          record { object = o.0; stands = o.1; key = o.2 }
 
       at : (f : Option ℕ) → found ≡ f → contest_map a f ≡ selections_with_key (meaning π tree) (Some k)
       at None is = elim ((records_at π tree comparable part.Contest).beside (Some k)) [
@@ -148,10 +165,12 @@ module _ (a : Judged) (comparable : IsComparable a.prefer (view a.tree)) where
       at (Some i) is =
           let h = stands_here i ((finds i).0 is) in
           let r = record_here π tree comparable part.Contest (Some k) i h in
-          let values : selection_values a i ≡ entries_at (codes "ContestSelection") h.object.value = ap (λ (o : Option Placed). unwrap_or (option_map (λ o. entries_at (codes "ContestSelection") o.value) o) []) h.stands in
+          let values : selection_values a i ≡ entries_at (codes "ContestSelection") h.object.value =
+          ap (λ (o : Option Placed). unwrap_or (option_map (λ o. entries_at (codes "ContestSelection") o.value) o) []) h.stands in
           fun_ext (λ n. ap (λ ds. selection_map π tree ds n) values)
           ∙ (sym (of_record π tree h.object.value r.0 r.1)
-          ∙ (ap selections_in_member (sym (other_than_election (holder_key_in π (role.OfFamily family.Contest) tree i) r.0.members (codes "ContestSelection") refl))
+          ∙ (ap selections_in_member
+          (sym (other_than_election (holder_key_in π (role.OfFamily family.Contest) tree i) r.0.members (codes "ContestSelection") refl))
           ∙ ap (λ (o : Option ObjectRecord). selections_in_member (option_and_then (λ r. r.members (codes "ContestSelection")) o)) (sym r.3)))
 
 -- ---- the selections of a contest at their positions among those of the report, and which of them has a name
@@ -179,9 +198,11 @@ module _ (a : Judged) (c : ℕ) where
   pub are_selections : AreSelectionsIn a c values
   are_selections i = at (slice_get (contests t) c)
     where
-      at : (o : Option Placed) → option_map (λ (s : Placed). s.value) (option_and_then (λ (o : Placed). slice_get (selections_of_contest o) i) o) ≡ slice_get (values_of o) i
+      at : (o : Option Placed) → option_map (λ (s : Placed). s.value) (option_and_then (λ (o : Placed). slice_get (selections_of_contest o) i) o)
+          ≡ slice_get (values_of o) i
       at None = refl
-      at (Some o) = sym (slice_get-map (λ (s : Placed). s.value) (selections_of_contest o) i) ∙ ap (λ ds. slice_get ds i) (values-placed_entries (codes "ContestSelection") o)
+      at (Some o) = sym (slice_get-map (λ (s : Placed). s.value) (selections_of_contest o) i)
+          ∙ ap (λ ds. slice_get ds i) (values-placed_entries (codes "ContestSelection") o)
 
   own : (s : Option Numbered) (o : Placed) → option_and_then (if_of_contest c) s ≡ Some o → s ≡ Some (c, o)
   own None o e = cc
@@ -194,13 +215,15 @@ module _ (a : Judged) (c : ℕ) where
   -- ---- by position
 
   module _ (start : ℕ) (counted : start ≡ selections_before t c) where
-    numbered_here : (i : ℕ) (d : Data) → slice_get values i ≡ Some d → (o : Placed) × (slice_get (numbered_selections t) (start + i) ≡ Some (c, o)) × (o.value ≡ d)
+    numbered_here : (i : ℕ) (d : Data) → slice_get values i ≡ Some d → (o : Placed) × (slice_get (numbered_selections t) (start + i) ≡ Some (c, o))
+        × (o.value ≡ d)
     numbered_here i d at =
         let o = option_map-Some (λ (o : Placed). o.value) (selection_of t c i) d (are_selections i ∙ at) in
         (o.0, own (slice_get (numbered_selections t) (start + i)) o.0 (stand_from_start t c start counted i ∙ o.1), o.2)
 
     -- the selection there, and its name
-    pub object_here : (i : ℕ) (d : Data) → slice_get values i ≡ Some d → (o : Placed) × (slice_get (objects family.Selection t) (start + i) ≡ Some o) × (o.value ≡ d)
+    pub object_here : (i : ℕ) (d : Data) → slice_get values i ≡ Some d → (o : Placed) × (slice_get (objects family.Selection t) (start + i) ≡ Some o)
+        × (o.value ≡ d)
     object_here i d at =
         let o = numbered_here i d at in
         (o.0, sym (numbered_at t (start + i)) ∙ ap (option_map (λ (s : Numbered). s.1)) o.1, o.2)

@@ -1,5 +1,9 @@
 -- The selections of two contests by the numbers of their names, number by number: what is found are the ways at all names.
-use Rattle.erd_compare.proofs.Common.{[], ◌≡◌, ◌⊎◌, ◌==◌, ℕ, Bool, true, false, cond, List, IfSome, In-all, ObjectRecord, nat_cmp_total, not_below_itself, ◌∷◌, ◌++◌, find, Some, None, Option, option_and_then, option_map, Less, sym, refl, ap, ◌∙◌, subst, inl, inr, same_Some, Data, view, In, AllByRecursion, IsDistinct, eq_by_cmp, Equal-is, nat_cmp, map-append, find-Some, AgreeBut, Stands, AreWays, Judged, NameParts, name_cmp, name_of, selection_record, SelectionRecord, on_side, has_number, number_of_name, number_of_selection, numbered_map, ComparedReport, Left, Right, option_or}
+use Rattle.erd_compare.proofs.Common.{[], ◌≡◌, ◌⊎◌, ◌==◌, ℕ, Bool, true, false, cond, List, IfSome, In-all, ObjectRecord, nat_cmp_total, not_below_itself, ◌∷◌}
+use Rattle.erd_compare.proofs.Common.{◌++◌, find, Some, None, Option, option_and_then, option_map, Less, sym, refl, ap, ◌∙◌, subst, inl, inr, same_Some, Data}
+use Rattle.erd_compare.proofs.Common.{view, In, AllByRecursion, IsDistinct, eq_by_cmp, Equal-is, nat_cmp, map-append, find-Some, AgreeBut, Stands, AreWays}
+use Rattle.erd_compare.proofs.Common.{Judged, NameParts, name_cmp, name_of, selection_record, SelectionRecord, on_side, has_number, number_of_name}
+use Rattle.erd_compare.proofs.Common.{number_of_selection, numbered_map, ComparedReport, Left, Right, option_or}
 use Rattle.std.specs.List.Sorted.{IsStrictlySortedBy}
 use Rattle.std.specs.Map.{keys_of}
 use Rattle.erd_check.proofs.Order.{In-append}
@@ -13,7 +17,8 @@ use Rattle.erd_compare.proofs.same_ranks.NumberedSelections.{name_tested, number
 use Rattle.erd_compare.proofs.same_selections.PlacedSelections.{contest_named}
 use Rattle.erd_compare.proofs.same_selections.SelectionWalks.{at_number, one_number, Numbered}
 use Rattle.erd_compare.specs.code.ContestSelections.{contest_map, has_name_in, selection_values, whole_record}
-use Rattle.erd_compare.specs.code.NamedSelections.{contest_values, named_cmp, names_of, record_named, value_of, AddsNumbers, AreAllWays, AreByNumber, IsNamedOn, TellsWays}
+use Rattle.erd_compare.specs.code.NamedSelections.{contest_values, named_cmp, names_of, record_named, value_of, AddsNumbers, AreAllWays, AreByNumber, IsNamedOn}
+use Rattle.erd_compare.specs.code.NamedSelections.{TellsWays}
 use Rattle.erd_compare.specs.declared.inside.named.NamedSelection.{NamedSelection}
 use Rattle.erd_compare.specs.declared.inside.named.NamedWays.{NamedWays}
 
@@ -32,7 +37,8 @@ keyed (x ∷ xs) k v e = at (k == x.0) refl (keyed xs k v)
 distinct_more : {K : Type 0} (eq : K → K → Bool) (xs : List K) (y : K) → IsDistinct eq xs → ((x : K) → In x xs → eq x y ≡ false) → IsDistinct eq (xs ++ y ∷ [])
 unfolding IsDistinct
 distinct_more eq [] y h apart = (tt, tt)
-distinct_more eq (x ∷ xs) y h apart = (all_both (λ z. eq x z ≡ false) xs (y ∷ []) h.0 (apart x (inl refl), tt), distinct_more eq xs y h.1 (λ z i. apart z (inr i)))
+distinct_more eq (x ∷ xs) y h apart =
+    (all_both (λ z. eq x z ≡ false) xs (y ∷ []) h.0 (apart x (inl refl), tt), distinct_more eq xs y h.1 (λ z i. apart z (inr i)))
 
 -- ---- what a contest has at a name, by its number
 
@@ -42,7 +48,8 @@ module _ (a b : Judged) where
   values_named side None d inside = absurd inside
   values_named side (Some c) d inside = contest_named a b side c (selection_values (on_side side a b) c) (are_selections (on_side side a b) c) d inside
 
-  map_there : (j : Judged) (contest : Option ℕ) (x : NameParts) → contest_map j contest x ≡ option_and_then (selection_record j.prefer (view j.tree)) (find (has_name_in j x) (contest_values j contest))
+  map_there : (j : Judged) (contest : Option ℕ) (x : NameParts) → contest_map j contest x ≡ option_and_then (selection_record j.prefer (view j.tree))
+      (find (has_name_in j x) (contest_values j contest))
   map_there j None x = refl
   map_there j (Some c) x = refl
 
@@ -66,7 +73,8 @@ module _ (a b : Judged) where
           at (Some s) = sym (record_whole j.prefer (view j.tree) (value_of s))
 
       -- as the record of what stands under its number
-      record_at : (r : ComparedReport) (x : NameParts) (k : ℕ) → IsNameOn a b r x → number_of_name a b x ≡ k → whole_record (contest_map j contest x) ≡ record_named j (at_number es k)
+      record_at : (r : ComparedReport) (x : NameParts) (k : ℕ) → IsNameOn a b r x → number_of_name a b x ≡ k → whole_record (contest_map j contest x)
+          ≡ record_named j (at_number es k)
       record_at r x k on same = ap whole_record (at_name r x on) ∙ (ap (λ q. whole_record (numbered_map a b side ds q)) same ∙ record_under k)
 
       -- nothing, if nothing stands there
@@ -84,8 +92,11 @@ module _ (a b : Judged) where
       named_under k s is =
           let found = find-Some (has_number a b side k) ds (value_of s) (sym (h.first k) ∙ ap (option_map value_of) is) in
           let named = (h.each k s is).named in
-          let number = number_tested a b (number_of_selection a b side (value_of s)) k found.1 in
-          (values_named side contest (value_of s) found.0 s.name.now named, same_Some (number_of_name a b s.name.now) k (sym (ap (option_map (number_of_name a b)) named) ∙ number))
+          let number = number_tested a b (number_of_selection a b side (value_of s)) k found.1 in (
+            values_named side contest (value_of s) found.0 s.name.now named,
+            same_Some (number_of_name a b s.name.now) k
+                (sym (ap (option_map (number_of_name a b)) named) ∙ number),
+          )
 
     -- a name that it has is one of its report
     name_there : (x : NameParts) → (contest_map j contest x ≡ None) ⊎ IsNameOn a b side x
@@ -142,7 +153,8 @@ module _ (a b : Judged) (one other : Option ℕ) where
       at x left (inr named) = told Right x named
       at x (inl left) (inl right) = inr (none_both x left right)
 
-  module _ (ls rs : Numbered NamedSelection) (mine : AreByNumber a b Left (contest_values a one) ls) (its : AreByNumber a b Right (contest_values b other) rs) where
+  module _ (ls rs : Numbered NamedSelection) (mine : AreByNumber a b Left (contest_values a one) ls)
+      (its : AreByNumber a b Right (contest_values b other) rs) where
     -- at first none was
     pub none_found : (js ks numbers : List ℕ) → AddsNumbers ls js ks → AddsNumbers rs ks numbers → IsStrictlySortedBy nat_cmp numbers → AreFound [] numbers
     unfolding IsDistinct
@@ -154,7 +166,8 @@ module _ (a b : Judged) (one other : Option ℕ) where
       each = λ r x on. at r x on (at_number ls (number_of_name a b x)) refl (at_number rs (number_of_name a b x)) refl;
     }
       where
-        at : (r : ComparedReport) (x : NameParts) → IsNameOn a b r x → (o : Option NamedSelection) → at_number ls (number_of_name a b x) ≡ o → (p : Option NamedSelection) → at_number rs (number_of_name a b x) ≡ p
+        at : (r : ComparedReport) (x : NameParts) → IsNameOn a b r x → (o : Option NamedSelection) → at_number ls (number_of_name a b x) ≡ o
+            → (p : Option NamedSelection) → at_number rs (number_of_name a b x) ≡ p
             → Stands (number_of_name a b x) numbers ⊎ IsTold [] x
         at r x on (Some s) is p at_right = inl (right.kept (number_of_name a b x) (left.added (number_of_name a b x) (keyed ls (number_of_name a b x) s is)))
         at r x on None is (Some s) at_right = inl (right.added (number_of_name a b x) (keyed rs (number_of_name a b x) s at_right))
@@ -168,9 +181,11 @@ module _ (a b : Judged) (one other : Option ℕ) where
       abbrev right : Option NamedSelection
       right = at_number rs q
 
-      records : (P : Option ObjectRecord → Option ObjectRecord → Type 0) (r : ComparedReport) (x : NameParts) → IsNameOn a b r x → number_of_name a b x ≡ q → P (record_named a left) (record_named b right) → P (whole_record (m x)) (whole_record (n x))
+      records : (P : Option ObjectRecord → Option ObjectRecord → Type 0) (r : ComparedReport) (x : NameParts) → IsNameOn a b r x → number_of_name a b x ≡ q
+          → P (record_named a left) (record_named b right) → P (whole_record (m x)) (whole_record (n x))
       records P r x on same holds =
-          tells_as P (whole_record (m x)) (whole_record (n x)) (record_named a left) (record_named b right) (record_at a b Left one ls mine r x q on same) (record_at a b Right other rs its r x q on same) holds
+          tells_as P (whole_record (m x)) (whole_record (n x)) (record_named a left) (record_named b right) (record_at a b Left one ls mine r x q on same)
+          (record_at a b Right other rs its r x q on same) holds
 
       -- the two selections don't differ
       passed : AgreeBut (λ how. ⊥) (record_named a left) (record_named b right) → AreFound found rest
@@ -188,10 +203,12 @@ module _ (a b : Judged) (one other : Option ℕ) where
       }
 
       -- the name of either
-      its_name : (x : NameParts) → Some x ≡ option_map (λ s. s.name.now) (option_or left right) → (r : ComparedReport) × IsNameOn a b r x × (number_of_name a b x ≡ q)
+      its_name : (x : NameParts) → Some x ≡ option_map (λ s. s.name.now) (option_or left right) → (r : ComparedReport) × IsNameOn a b r x
+          × (number_of_name a b x ≡ q)
       its_name x e = at left refl right refl e
         where
-          at : (o : Option NamedSelection) → left ≡ o → (p : Option NamedSelection) → right ≡ p → Some x ≡ option_map (λ (s : NamedSelection). s.name.now) (option_or o p) → (r : ComparedReport) × IsNameOn a b r x × (number_of_name a b x ≡ q)
+          at : (o : Option NamedSelection) → left ≡ o → (p : Option NamedSelection) → right ≡ p → Some x ≡ option_map (λ (s : NamedSelection). s.name.now)
+              (option_or o p) → (r : ComparedReport) × IsNameOn a b r x × (number_of_name a b x ≡ q)
           at (Some s) is p there e =
               let name : s.name.now ≡ x = same_Some s.name.now x (sym e) in
               let known = named_under a b Left one ls mine q s is in
@@ -203,7 +220,8 @@ module _ (a b : Judged) (one other : Option ℕ) where
           at None is None there e = cc
 
       -- they do
-      module _ (v : NamedWays) (name : Some v.name.now ≡ option_map (λ s. s.name.now) (option_or left right)) (ways : AreWays true (record_named a left) (record_named b right) v.ways) where
+      module _ (v : NamedWays) (name : Some v.name.now ≡ option_map (λ s. s.name.now) (option_or left right))
+          (ways : AreWays true (record_named a left) (record_named b right) v.ways) where
         abbrev after : List NamedWays
         after = found ++ v ∷ []
 
@@ -227,10 +245,12 @@ module _ (a b : Judged) (one other : Option ℕ) where
             not_below_itself nat_cmp nat_cmp_total q (subst (λ y. nat_cmp q y ≡ Less) (sym same_numbers) low)
 
         named_before : (x : NameParts) → Stands x (names_of found) → Stands x (names_of after)
-        named_before x s = subst (Stands x) (sym (map-append (λ (w : NamedWays). w.name.now) found (v ∷ []))) (stands_before x (names_of found) (names_of (v ∷ [])) s)
+        named_before x s = subst (Stands x) (sym (map-append (λ (w : NamedWays). w.name.now) found (v ∷ [])))
+            (stands_before x (names_of found) (names_of (v ∷ [])) s)
 
         named_last : Stands v.name.now (names_of after)
-        named_last = subst (Stands v.name.now) (sym (map-append (λ (w : NamedWays). w.name.now) found (v ∷ []))) (stands_behind v.name.now (names_of found) (names_of (v ∷ [])) (inl refl))
+        named_last = subst (Stands v.name.now) (sym (map-append (λ (w : NamedWays). w.name.now) found (v ∷ [])))
+            (stands_behind v.name.now (names_of found) (names_of (v ∷ [])) (inl refl))
 
         added : AreFound after rest
         unfolding IsStrictlySortedBy
@@ -244,7 +264,8 @@ module _ (a b : Judged) (one other : Option ℕ) where
             | inr (inr none) ↦ absurd none
           ];
           each = λ r x on. elim (h.each r x on) [
-            | inl (inl same) ↦ inr (inl (subst (λ y. Stands y (names_of after)) (sym (one_name a b r known.0 x v.name.now on known.1 (sym same ∙ sym known.2))) named_last))
+            | inl (inl same) ↦
+                inr (inl (subst (λ y. Stands y (names_of after)) (sym (one_name a b r known.0 x v.name.now on known.1 (sym same ∙ sym known.2))) named_last))
             | inl (inr s) ↦ inl s
             | inr (inl s) ↦ inr (inl (named_before x s))
             | inr (inr agree) ↦ inr (inr agree)
@@ -256,9 +277,11 @@ module _ (a b : Judged) (one other : Option ℕ) where
     with_told found None = found
     with_told found (Some v) = found ++ v ∷ []
 
-    pub next_told : (found : List NamedWays) (q : ℕ) {numbers rest : List ℕ} → numbers ≡ q ∷ rest → AreFound found numbers → (o p : Option NamedSelection) → o ≡ at_number ls q → p ≡ at_number rs q → (told : Option NamedWays) → TellsWays a b o p told
+    pub next_told : (found : List NamedWays) (q : ℕ) {numbers rest : List ℕ} → numbers ≡ q ∷ rest → AreFound found numbers → (o p : Option NamedSelection)
+        → o ≡ at_number ls q → p ≡ at_number rs q → (told : Option NamedWays) → TellsWays a b o p told
         → AreFound (with_told found told) rest
-    next_told found q {rest = rest} next h o p left right told tells = at told (subst (λ x. TellsWays a b x (at_number rs q) told) left (subst (λ y. TellsWays a b o y told) right tells))
+    next_told found q {rest = rest} next h o p left right told tells =
+        at told (subst (λ x. TellsWays a b x (at_number rs q) told) left (subst (λ y. TellsWays a b o y told) right tells))
       where
         here : AreFound found (q ∷ rest)
         here = subst (AreFound found) next h

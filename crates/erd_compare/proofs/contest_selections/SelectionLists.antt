@@ -1,5 +1,7 @@
 -- The differences at the names of selections, one name after another in rising order, are all differences of two contests.
-use Rattle.erd_compare.proofs.Common.{[], ◌≡◌, ◌⊎◌, ℕ, ◌+◌, Bool, true, List, ◌∷◌, ◌++◌, map, drop, Some, Option, Less, sym, refl, ap, ◌∙◌, subst, inl, inr, tied_itself, append-nil, Bor, AllByRecursion, In, In-map, In-map_from, In-all, ordering_then, How, Member, AgreeBut, DifferIn, Stands, hows_of, AreWays, Ways, NameParts, length, ◌≤◌, slice_get, map-append, drop_all, Data, Value, view}
+use Rattle.erd_compare.proofs.Common.{[], ◌≡◌, ◌⊎◌, ℕ, ◌+◌, Bool, true, List, ◌∷◌, ◌++◌, map, drop, Some, Option, Less, sym, refl, ap, ◌∙◌, subst, inl, inr}
+use Rattle.erd_compare.proofs.Common.{tied_itself, append-nil, Bor, AllByRecursion, In, In-map, In-map_from, In-all, ordering_then, How, Member, AgreeBut}
+use Rattle.erd_compare.proofs.Common.{DifferIn, Stands, hows_of, AreWays, Ways, NameParts, length, ◌≤◌, slice_get, map-append, drop_all, Data, Value, view}
 use Rattle.std.specs.List.Sorted.{IsStrictlySortedBy}
 use Rattle.erd_check.proofs.Order.{In-append, all_from_In, sorted_append, sorted_map}
 use Rattle.erd_meaning.proofs.selections.ContestSelections.{all_both}
@@ -49,12 +51,14 @@ module _ (m n : SelectionMap) where
     pub each : (x : NameParts) → Stands x rest ⊎ AgreeBut (Told found x) (m x) (n x)
 
   -- at first none was
-  none_passed : (names : List NameParts) → IsStrictlySortedBy name_cmp names → ((x : NameParts) → Stands x names ⊎ AgreeBut (λ how. ⊥) (m x) (n x)) → ArePassed [] names
+  none_passed : (names : List NameParts) → IsStrictlySortedBy name_cmp names → ((x : NameParts) → Stands x names ⊎ AgreeBut (λ how. ⊥) (m x) (n x))
+      → ArePassed [] names
   unfolding IsStrictlySortedBy
   none_passed names rise each = record { rise = tt; differ = tt; left = rise; below = λ d none. absurd none; each = each }
 
   -- those at the next one are told
-  module _ (found : List SelectionDifference) (x : NameParts) (rest : List NameParts) (w : Ways) (h : ArePassed found (x ∷ rest)) (ways : AreWays true (whole_record (m x)) (whole_record (n x)) w) where
+  module _ (found : List SelectionDifference) (x : NameParts) (rest : List NameParts) (w : Ways) (h : ArePassed found (x ∷ rest))
+      (ways : AreWays true (whole_record (m x)) (whole_record (n x)) w) where
     abbrev new : List SelectionDifference
     new = differences_named x w
 
@@ -70,19 +74,23 @@ module _ (m n : SelectionMap) where
     here : AgreeBut (Told (found ++ new) x) (m x) (n x)
     here =
         agree_more (λ how. Stands how (hows_of w)) (Told (found ++ new) x)
-        (λ how s. stands_behind (the_difference x how) found new (to_stands (the_difference x how) new (In-map (the_difference x) how (hows_of w) (to_in how (hows_of w) s)))) (m x) (n x)
+        (λ how s. stands_behind (the_difference x how) found new
+        (to_stands (the_difference x how) new (In-map (the_difference x) how (hows_of w) (to_in how (hows_of w) s)))) (m x) (n x)
         (agree_plain (λ how. Stands how (hows_of w)) (m x) (n x) (ways_all (whole_record (m x)) (whole_record (n x)) w ways))
 
     one_passed : ArePassed (found ++ new) rest
     unfolding IsStrictlySortedBy
     one_passed = record {
-      rise = sorted_append selection_difference_cmp found new h.rise (sorted_map (the_difference x) way_cmp selection_difference_cmp (at_one_name x) (hows_of w) (ways_rise true (whole_record (m x)) (whole_record (n x)) w ways))
+      rise = sorted_append selection_difference_cmp found new h.rise
+          (sorted_map (the_difference x) way_cmp selection_difference_cmp (at_one_name x) (hows_of w)
+          (ways_rise true (whole_record (m x)) (whole_record (n x)) w ways))
           (λ d e i j. by_names d e (subst (λ y. name_cmp d.name y ≡ Less) (its_name e j) (h.below d i x (inl refl))));
       differ = all_both (AreUnlikeSelections m n) found new h.differ
           (all_from_In (AreUnlikeSelections m n) new (λ e i.
           let way = way_of e i in
           subst (AreUnlikeSelections m n) way.2
-          (differ_plain (m x) (n x) way.0 (In-all (DifferIn (whole_record (m x)) (whole_record (n x))) way.0 (hows_of w) (ways_sound true (whole_record (m x)) (whole_record (n x)) w ways) way.1))));
+          (differ_plain (m x) (n x) way.0 (In-all (DifferIn (whole_record (m x)) (whole_record (n x))) way.0 (hows_of w)
+          (ways_sound true (whole_record (m x)) (whole_record (n x)) w ways) way.1))));
       left = h.left.1;
       below = λ d i y j. elim (In-append d found new i) [
         | inl old ↦ h.below d old y (inr j)
@@ -111,23 +119,27 @@ module _ (m n : SelectionMap) where
   abbrev HaveWays : List NamedWays → Type 0
   HaveWays vs = AllByRecursion (λ v. AreWays true (whole_record (m v.name.now)) (whole_record (n v.name.now)) v.ways) vs
 
-  passed_on : (found : List SelectionDifference) (vs : List NamedWays) → ArePassed found (names_of vs) → HaveWays vs → AreSelectionDifferences m n (found ++ differences_at vs)
+  passed_on : (found : List SelectionDifference) (vs : List NamedWays) → ArePassed found (names_of vs) → HaveWays vs
+      → AreSelectionDifferences m n (found ++ differences_at vs)
   passed_on found [] h ways = subst (AreSelectionDifferences m n) (sym (append-nil found)) (all_passed found [] refl h)
   passed_on found (v ∷ vs) h ways =
       let new = differences_named v.name.now v.ways in
-      subst (AreSelectionDifferences m n) (append_assoc found new (differences_at vs)) (passed_on (found ++ new) vs (one_passed found v.name.now (names_of vs) v.ways h ways.0) ways.1)
+      subst (AreSelectionDifferences m n) (append_assoc found new (differences_at vs))
+      (passed_on (found ++ new) vs (one_passed found v.name.now (names_of vs) v.ways h ways.0) ways.1)
 
   module _ (vs : List NamedWays) (h : AreAllWays m n vs) where
     abbrev rising : List NamedWays
     rising = rising_list named_cmp vs
 
     names_rise : IsStrictlySortedBy name_cmp (names_of rising)
-    names_rise = sorted_map (λ (v : NamedWays). v.name.now) named_cmp name_cmp (λ x y low. low) rising (rising_strictly (on_total (λ (v : NamedWays). v.name.now) name_cmp_total) vs h.once)
+    names_rise = sorted_map (λ (v : NamedWays). v.name.now) named_cmp name_cmp (λ x y low. low) rising
+        (rising_strictly (on_total (λ (v : NamedWays). v.name.now) name_cmp_total) vs h.once)
 
     still_there : (x : NameParts) → Stands x (names_of vs) → Stands x (names_of rising)
     still_there x s =
         let v = In-map_from (λ (v : NamedWays). v.name.now) vs x (to_in x (names_of vs) s) in
-        subst (λ y. Stands y (names_of rising)) v.2 (to_stands v.0.name.now (names_of rising) (In-map (λ (v : NamedWays). v.name.now) v.0 rising (rising-In named_cmp v.0 vs v.1)))
+        subst (λ y. Stands y (names_of rising)) v.2
+        (to_stands v.0.name.now (names_of rising) (In-map (λ (v : NamedWays). v.name.now) v.0 rising (rising-In named_cmp v.0 vs v.1)))
 
     -- the differences at the names in rising order are all of them
     pub all_in_order : AreSelectionDifferences m n (differences_at rising)
@@ -144,7 +156,8 @@ pub size_in_order : (vs : List NamedWays) → text_size (Some (differences_at vs
 size_in_order vs =
     let rising = rising_list named_cmp vs in
     same_size (differences_at vs) (differences_at rising)
-    (sym (sum_by-IsPermutation size_of_one (differences_at vs) (differences_at rising) (reordered_flat (λ (v : NamedWays). differences_named v.name.now v.ways) (reordered_rising named_cmp vs))))
+    (sym (sum_by-IsPermutation size_of_one (differences_at vs) (differences_at rising)
+    (reordered_flat (λ (v : NamedWays). differences_named v.name.now v.ways) (reordered_rising named_cmp vs))))
 
 -- the sort puts them into this order
 pub sorted_by_name : {F : Type 0} {g : Mut F (Bor NamedWays × (Bor NamedWays × Unit {0})) Ordering} {f : F} (old new : List NamedWays)
@@ -155,14 +168,22 @@ pub sorted_by_name : {F : Type 0} {g : Mut F (Bor NamedWays × (Bor NamedWays ×
 sorted_by_name {g = g} {f = f} old new sorted stable calls =
     let is_below : NamedWays → NamedWays → Bool = λ v w. is_lt (named_cmp v w) in
     let order = ranks_by name_cmp_total (λ (v : NamedWays). v.name.now) in
-    let compares = always_returns_same g (λ a r. is_lt r ≡ is_below a.0.now a.1.0.now) f (λ a r f' call. (ap is_lt (calls a r f' call).0, (calls a r f' call).1)) in
-    rising_from_sort named_cmp (on_total (λ (v : NamedWays). v.name.now) name_cmp_total) old new (sorted is_below order compares) (stable is_below order compares)
+    let compares = always_returns_same g (λ a r. is_lt r ≡ is_below a.0.now a.1.0.now) f
+    (λ a r f' call. (ap is_lt (calls a r f' call).0, (calls a r f' call).1)) in
+    rising_from_sort named_cmp (on_total (λ (v : NamedWays). v.name.now) name_cmp_total) old new (sorted is_below order compares)
+    (stable is_below order compares)
 
 -- what is told of two contests, if its text fits
-pub passes_inside : (m n : SelectionMap) (vs : List NamedWays) → AreAllWays m n vs → (before after : Option ℕ) (room : ℕ) → before ≡ Some room → Leaves (text_size (Some (differences_at vs))) room after → (told : Option (List SelectionDifference))
+pub passes_inside : (m n : SelectionMap) (vs : List NamedWays) → AreAllWays m n vs → (before after : Option ℕ) (room : ℕ) → before ≡ Some room
+    → Leaves (text_size (Some (differences_at vs))) room after → (told : Option (List SelectionDifference))
     → told ≡ if_left after (Some (differences_at (rising_list named_cmp vs))) → PassesInside m n told before after
 passes_inside m n vs h before after room is leaves told shown =
-    subst (λ o. PassesInside m n told o after) (sym is) (differences_at (rising_list named_cmp vs), all_in_order m n vs h, subst (λ size. Leaves size room after) (size_in_order vs) leaves, shown)
+    subst (λ o. PassesInside m n told o after) (sym is) (
+      differences_at (rising_list named_cmp vs),
+      all_in_order m n vs h,
+      subst (λ size. Leaves size room after) (size_in_order vs) leaves,
+      shown,
+    )
 
 -- ---- the differences at one name
 
@@ -184,7 +205,8 @@ differences_from i vs = differences_at (drop i vs)
 
 module _ {A : Type 0} (f : A → Data) (xs : List A) (i : ℕ) where
   -- with one more value, those of fewer entries are left
-  pub one_value : (x : A) (vs ws : List Value) (v : Value) → slice_get xs i ≡ Some x → map view vs ++ map f (drop i xs) ≡ map f xs → view v ≡ f x → ws ≡ vs ++ (v ∷ []) → map view ws ++ map f (drop (i + 1) xs) ≡ map f xs
+  pub one_value : (x : A) (vs ws : List Value) (v : Value) → slice_get xs i ≡ Some x → map view vs ++ map f (drop i xs) ≡ map f xs → view v ≡ f x
+      → ws ≡ vs ++ (v ∷ []) → map view ws ++ map f (drop (i + 1) xs) ≡ map f xs
   one_value x vs ws v here known value is =
       ap (λ zs. map view zs ++ map f (drop (i + 1) xs)) is
       ∙ (ap (λ zs. zs ++ map f (drop (i + 1) xs)) (map-append view vs (v ∷ []))

@@ -1,5 +1,7 @@
 -- How long the texts of differences of selections are: they have no float, so each is known byte for byte.
-use Rattle.erd_compare.proofs.Common.{[], ◌≡◌, ◌≢◌, ◌⊎◌, ℕ, zero, suc, ◌+◌, ◌<◌, Bool, true, false, List, ◌∷◌, ◌++◌, map, length, drop, drop_all, slice_get, ◌≤◌, nat_lt, Some, None, Option, sym, refl, ap, ◌∙◌, inl, inr, arith, Bor, NameParts, Key, Data, null, number, array, unsigned, negative, pos, has_float, items_have_float, compact_text, How, Member, OnlyLeft, OnlyRight, OtherClass}
+use Rattle.erd_compare.proofs.Common.{[], ◌≡◌, ◌≢◌, ◌⊎◌, ℕ, zero, suc, ◌+◌, ◌<◌, Bool, true, false, List, ◌∷◌, ◌++◌, map, length, drop, drop_all, slice_get}
+use Rattle.erd_compare.proofs.Common.{◌≤◌, nat_lt, Some, None, Option, sym, refl, ap, ◌∙◌, inl, inr, arith, Bor, NameParts, Key, Data, null, number, array}
+use Rattle.erd_compare.proofs.Common.{unsigned, negative, pos, has_float, items_have_float, compact_text, How, Member, OnlyLeft, OnlyRight, OtherClass}
 use Rattle.std.specs.Prelude.{ℤ, negsuc, ◌^◌, if◌then◌else◌, sum_by}
 use Rattle.std.proofs.lemmas.List.{length-append}
 use Rattle.std.proofs.lemmas.List.Sums.{sum_by-append, sum_by-cons}
@@ -64,7 +66,9 @@ name_whole : (n : NameParts) → IsWhole (name_data n)
 name_whole n =
     array_whole
     (one_whole (record { whole = refl })
-    (one_whole (array_whole (keys_whole n.keys)) (one_whole (record { whole = refl }) (one_whole (order_whole n.order) (one_whole (label_whole n.label) (one_whole (key_whole n.identifier) none_whole))))))
+    (one_whole (array_whole (keys_whole n.keys))
+    (one_whole (record { whole = refl })
+    (one_whole (order_whole n.order) (one_whole (label_whole n.label) (one_whole (key_whole n.identifier) none_whole))))))
 
 pub difference_whole : (name : NameParts) (how : How) → has_float (selection_data (the_difference name how)) ≡ false
 difference_whole name OnlyLeft = let it = name_whole name in rw it.whole refl
@@ -82,7 +86,8 @@ size_at v = size_of_list (differences_named v.name.now v.ways)
 pub sizes_at : (vs : List NamedWays) → sum_by size_at vs ≡ size_of_list (differences_at vs)
 sizes_at [] = refl
 sizes_at (v ∷ vs) =
-    sum_by-cons size_at v vs ∙ (ap (λ s. size_at v + s) (sizes_at vs) ∙ sym (sum_by-append size_of_one (differences_named v.name.now v.ways) (differences_at vs)))
+    sum_by-cons size_at v vs
+    ∙ (ap (λ s. size_at v + s) (sizes_at vs) ∙ sym (sum_by-append size_of_one (differences_named v.name.now v.ways) (differences_at vs)))
 
 -- the difference in the member with this name
 abbrev pub size_in_member : NameParts → Bor (List ℕ) → ℕ
@@ -93,11 +98,13 @@ abbrev pub no_member : Bor (List ℕ)
 no_member = record { ref_ptr = (0, 0); now = [] }
 
 -- those in all members
-pub sizes_in : (name : NameParts) (ss : List (Bor (List ℕ))) → sum_by (size_in_member name) ss ≡ size_of_list (map (the_difference name) (map Member (map (λ s. s.now) ss)))
+pub sizes_in : (name : NameParts) (ss : List (Bor (List ℕ))) → sum_by (size_in_member name) ss
+    ≡ size_of_list (map (the_difference name) (map Member (map (λ s. s.now) ss)))
 sizes_in name [] = refl
 sizes_in name (s ∷ ss) =
     sum_by-cons (size_in_member name) s ss
-    ∙ (ap (λ n. size_in_member name s + n) (sizes_in name ss) ∙ sym (sum_by-cons size_of_one (the_difference name (Member s.now)) (map (the_difference name) (map Member (map (λ s. s.now) ss)))))
+    ∙ (ap (λ n. size_in_member name s + n) (sizes_in name ss)
+    ∙ sym (sum_by-cons size_of_one (the_difference name (Member s.now)) (map (the_difference name) (map Member (map (λ s. s.now) ss)))))
 
 -- ---- the text of the array
 
@@ -105,17 +112,22 @@ sizes_in name (s ∷ ss) =
 joined_later : (text rest : List ℕ) (size total : ℕ) → length rest ≡ suc size → total ≡ suc (length text) + size → length (44 ∷ (text ++ rest)) ≡ suc total
 joined_later text rest size total more sum = let one = length-append text rest in omega (arith, one, more, sum)
 
-joined_first : (text rest : List ℕ) (size total : ℕ) → length rest ≡ suc size → total ≡ suc (length text) + size → (0 < total) × (length (91 ∷ (text ++ rest)) ≡ suc total)
+joined_first : (text rest : List ℕ) (size total : ℕ) → length rest ≡ suc size → total ≡ suc (length text) + size → (0 < total)
+    × (length (91 ∷ (text ++ rest)) ≡ suc total)
 joined_first text rest size total more sum = let one = length-append text rest in (omega (arith, sum), omega (arith, one, more, sum))
 
 later_size : (ds : List SelectionDifference) → length (items_text true (items_of (map selection_data ds))) ≡ suc (size_of_list ds)
 later_size [] = refl
-later_size (d ∷ ds) = joined_later (compact_text (selection_data d)) (items_text true (items_of (map selection_data ds))) (size_of_list ds) _ (later_size ds) (sum_by-cons size_of_one d ds)
+later_size (d ∷ ds) = joined_later (compact_text (selection_data d)) (items_text true (items_of (map selection_data ds))) (size_of_list ds) _ (later_size ds)
+    (sum_by-cons size_of_one d ds)
 
 -- without differences it is two brackets, and otherwise it has one byte in front of them
-pub whole_size : (ds : List SelectionDifference) → ((size_of_list ds ≡ 0) × (text_size (Some ds) ≡ 2)) ⊎ ((0 < size_of_list ds) × (text_size (Some ds) ≡ suc (size_of_list ds)))
+pub whole_size : (ds : List SelectionDifference) → ((size_of_list ds ≡ 0) × (text_size (Some ds) ≡ 2))
+    ⊎ ((0 < size_of_list ds) × (text_size (Some ds) ≡ suc (size_of_list ds)))
 whole_size [] = inl (refl, refl)
-whole_size (d ∷ ds) = inr (joined_first (compact_text (selection_data d)) (items_text true (items_of (map selection_data ds))) (size_of_list ds) _ (later_size ds) (sum_by-cons size_of_one d ds))
+whole_size (d ∷ ds) =
+    inr (joined_first (compact_text (selection_data d)) (items_text true (items_of (map selection_data ds))) (size_of_list ds) _ (later_size ds)
+    (sum_by-cons size_of_one d ds))
 
 -- as many bytes in an array, as many in its text
 pub same_size : (ds es : List SelectionDifference) → size_of_list ds ≡ size_of_list es → text_size (Some ds) ≡ text_size (Some es)
@@ -147,24 +159,30 @@ module _ (ds : List SelectionDifference) (room : ℕ) where
       at list whole low (inr (some, more)) = omega (arith, low, more)
 
   -- and else they leave what their brackets leave
-  both_brackets : (list whole left : ℕ) (after : Option ℕ) → left + list ≡ room → list ≡ 0 → ((list ≡ 0) × (whole ≡ 2)) ⊎ ((0 < list) × (whole ≡ suc list)) → Leaves 2 left after → Leaves whole room after
+  both_brackets : (list whole left : ℕ) (after : Option ℕ) → left + list ≡ room → list ≡ 0 → ((list ≡ 0) × (whole ≡ 2)) ⊎ ((0 < list) × (whole ≡ suc list))
+      → Leaves 2 left after → Leaves whole room after
   both_brackets list whole left None known none (inl (_, two)) low = omega (arith, known, none, two, low)
   both_brackets list whole left (Some rest) known none (inl (_, two)) fits = omega (arith, known, none, two, fits)
   both_brackets list whole left after known none (inr (some, more)) fits = absurd (omega (arith, none, some))
 
-  one_bracket : (list whole left : ℕ) (after : Option ℕ) → left + list ≡ room → 0 < list → ((list ≡ 0) × (whole ≡ 2)) ⊎ ((0 < list) × (whole ≡ suc list)) → Leaves 1 left after → Leaves whole room after
+  one_bracket : (list whole left : ℕ) (after : Option ℕ) → left + list ≡ room → 0 < list → ((list ≡ 0) × (whole ≡ 2)) ⊎ ((0 < list) × (whole ≡ suc list))
+      → Leaves 1 left after → Leaves whole room after
   one_bracket list whole left None known some (inr (_, more)) low = omega (arith, known, more, low)
   one_bracket list whole left (Some rest) known some (inr (_, more)) fits = omega (arith, known, more, fits)
   one_bracket list whole left after known some (inl (none, _)) fits = absurd (omega (arith, none, some))
 
-  pub nothing_there : (left : ℕ) (after : Option ℕ) → Leaves (size_of_list ds) room (Some left) → left ≡ room → Leaves 2 left after → Leaves (text_size (Some ds)) room after
-  nothing_there left after known same fits = both_brackets (size_of_list ds) (text_size (Some ds)) left after known (none (size_of_list ds) known) (whole_size ds) fits
+  pub nothing_there : (left : ℕ) (after : Option ℕ) → Leaves (size_of_list ds) room (Some left) → left ≡ room → Leaves 2 left after
+      → Leaves (text_size (Some ds)) room after
+  nothing_there left after known same fits = both_brackets (size_of_list ds) (text_size (Some ds)) left after known
+      (none (size_of_list ds) known) (whole_size ds) fits
     where
       none : (list : ℕ) → left + list ≡ room → list ≡ 0
       none list known = omega (arith, known, same)
 
-  pub some_there : (left : ℕ) (after : Option ℕ) → Leaves (size_of_list ds) room (Some left) → left ≢ room → Leaves 1 left after → Leaves (text_size (Some ds)) room after
-  some_there left after known other fits = one_bracket (size_of_list ds) (text_size (Some ds)) left after known (some (size_of_list ds) known) (whole_size ds) fits
+  pub some_there : (left : ℕ) (after : Option ℕ) → Leaves (size_of_list ds) room (Some left) → left ≢ room → Leaves 1 left after
+      → Leaves (text_size (Some ds)) room after
+  some_there left after known other fits = one_bracket (size_of_list ds) (text_size (Some ds)) left after known
+      (some (size_of_list ds) known) (whole_size ds) fits
     where
       some : (list : ℕ) → left + list ≡ room → 0 < list
       some zero known = absurd (other (omega (arith, known)))

@@ -1,5 +1,9 @@
 -- The selections of a contest are put under the numbers of their names, one position after another.
-use Rattle.erd_compare.proofs.Common.{◌≡◌, List, [], ◌∷◌, map, sym, refl, ℕ, ◌+◌, ◌<◌, ◌≤◌, length, drop_all, slice_get, Some, None, codes, Option, option_map, option_and_then, ap, ◌∙◌, subst, drop, Data, Value, view, selections_before, family, entries_at, Judged, Placed, objects, name_of, NameParts, Bor, length-map, slice_get_within, at_low, on_side, number_of_selection, number_of_name, numbered_selections, ComparedReport, IsComparable, same_Some, is_some, cond, ◌==◌, Bool, true, false, ◌⊎◌, inl, inr, Stands, Ordering, Less, Equal, Greater, match_ordering, nat_cmp, exact_unsigned}
+use Rattle.erd_compare.proofs.Common.{◌≡◌, List, [], ◌∷◌, map, sym, refl, ℕ, ◌+◌, ◌<◌, ◌≤◌, length, drop_all, slice_get, Some, None, codes, Option, option_map}
+use Rattle.erd_compare.proofs.Common.{option_and_then, ap, ◌∙◌, subst, drop, Data, Value, view, selections_before, family, entries_at, Judged, Placed, objects}
+use Rattle.erd_compare.proofs.Common.{name_of, NameParts, Bor, length-map, slice_get_within, at_low, on_side, number_of_selection, number_of_name}
+use Rattle.erd_compare.proofs.Common.{numbered_selections, ComparedReport, IsComparable, same_Some, is_some, cond, ◌==◌, Bool, true, false, ◌⊎◌, inl, inr}
+use Rattle.erd_compare.proofs.Common.{Stands, Ordering, Less, Equal, Greater, match_ordering, nat_cmp, exact_unsigned}
 use Rattle.std.specs.BTreeSet.{insert_key}
 use Rattle.std.specs.Map.{keys_of}
 use Rattle.erd_check.proofs.Positions.{left_there}
@@ -51,7 +55,8 @@ module _ (a b : Judged) (side : ComparedReport) (i : ℕ) where
   pub numbered_there : (k : ℕ) → Some k ≡ number_there → HasNumberAt k
   numbered_there k e = at there refl (slice_get (numbered_selections t) i) refl e
     where
-      by : (o : Placed) → there ≡ Some o → (s : ℕ × Placed) → slice_get (numbered_selections t) i ≡ Some s → s.1 ≡ o → (n : Option NameParts) → name_of j.prefer t o.value ≡ n → Some k ≡ option_map (number_of_name a b) n → HasNumberAt k
+      by : (o : Placed) → there ≡ Some o → (s : ℕ × Placed) → slice_get (numbered_selections t) i ≡ Some s → s.1 ≡ o → (n : Option NameParts)
+          → name_of j.prefer t o.value ≡ n → Some k ≡ option_map (number_of_name a b) n → HasNumberAt k
       by o is s stands same None named e = cc
       by o is s stands same (Some n) named e = record {
         object = o;
@@ -61,10 +66,12 @@ module _ (a b : Judged) (side : ComparedReport) (i : ℕ) where
         named = named;
         told = ap (option_and_then (λ (x : ℕ × Placed). option_map (with_name x.0) (name_of j.prefer t x.1.value))) stands
             ∙ (ap (λ (x : Placed). option_map (with_name s.0) (name_of j.prefer t x.value)) same ∙ ap (option_map (with_name s.0)) named);
-        both = ap (option_and_then both_of) is ∙ (ap (λ m. option_map (with_value o.value) (option_map (number_of_name a b) m)) named ∙ ap (option_map (with_value o.value)) (sym e));
+        both = ap (option_and_then both_of) is ∙ (ap (λ m. option_map (with_value o.value) (option_map (number_of_name a b) m)) named
+            ∙ ap (option_map (with_value o.value)) (sym e));
       }
 
-      at : (o : Option Placed) → there ≡ o → (s : Option (ℕ × Placed)) → slice_get (numbered_selections t) i ≡ s → Some k ≡ option_and_then (λ o. number_of_selection a b side o.value) o → HasNumberAt k
+      at : (o : Option Placed) → there ≡ o → (s : Option (ℕ × Placed)) → slice_get (numbered_selections t) i ≡ s
+          → Some k ≡ option_and_then (λ o. number_of_selection a b side o.value) o → HasNumberAt k
       at None is s stands e = cc
       at (Some o) is None stands e = let clash : None ≡ Some o = sym (ap (option_map (λ (s : ℕ × Placed). s.1)) stands) ∙ (numbered_at t i ∙ is) in cc
       at (Some o) is (Some s) stands e =
@@ -80,10 +87,12 @@ module _ (a b : Judged) (side : ComparedReport) (i : ℕ) where
       at (Some o) e = ap (option_map (with_value o.value)) e
 
   module _ (k : ℕ) (h : HasNumberAt k) where
-    pub name_found : (s : Option (ℕ × Bor NameParts)) → option_map {U = ℕ × NameParts} (λ (s : ℕ × Bor NameParts). (s.0, s.1.now)) s ≡ selection_in j.prefer t i → option_map (λ (s : ℕ × Bor NameParts). s.1.now) s ≡ Some h.name
+    pub name_found : (s : Option (ℕ × Bor NameParts)) → option_map {U = ℕ × NameParts} (λ (s : ℕ × Bor NameParts). (s.0, s.1.now)) s ≡ selection_in j.prefer t i
+        → option_map (λ (s : ℕ × Bor NameParts). s.1.now) s ≡ Some h.name
     name_found s e = at s (e ∙ h.told)
       where
-        at : (s : Option (ℕ × Bor NameParts)) → option_map {U = ℕ × NameParts} (λ (s : ℕ × Bor NameParts). (s.0, s.1.now)) s ≡ Some (h.contest, h.name) → option_map (λ (s : ℕ × Bor NameParts). s.1.now) s ≡ Some h.name
+        at : (s : Option (ℕ × Bor NameParts)) → option_map {U = ℕ × NameParts} (λ (s : ℕ × Bor NameParts). (s.0, s.1.now)) s ≡ Some (h.contest, h.name)
+            → option_map (λ (s : ℕ × Bor NameParts). s.1.now) s ≡ Some h.name
         at None e = cc
         at (Some s) e = let pair : ◌≡◌ {A = ℕ × NameParts} (s.0, s.1.now) (h.contest, h.name) = cc in ap (λ (p : ℕ × NameParts). Some p.1) pair
 
@@ -91,9 +100,11 @@ module _ (a b : Judged) (side : ComparedReport) (i : ℕ) where
     value_found v e = e ∙ ap (option_map (λ (o : Placed). o.value)) h.stands
 
     -- it has its name there
-    pub named_found : IsComparable j.prefer t → (s : NamedSelection) → s.name.now ≡ h.name → value_of s ≡ h.object.value → s.object.index ≡ i → IsNamedOn a b side s
+    pub named_found : IsComparable j.prefer t → (s : NamedSelection) → s.name.now ≡ h.name → value_of s ≡ h.object.value → s.object.index
+        ≡ i → IsNamedOn a b side s
     named_found comparable s name value index =
-        let placed = subst (λ x. option_map (λ (o : Placed). o.value) (slice_get (objects family.Selection t) x) ≡ Some (value_of s)) (sym index) (ap (option_map (λ (o : Placed). o.value)) h.stands ∙ ap Some (sym value)) in
+        let placed = subst (λ x. option_map (λ (o : Placed). o.value) (slice_get (objects family.Selection t) x) ≡ Some (value_of s)) (sym index)
+        (ap (option_map (λ (o : Placed). o.value)) h.stands ∙ ap Some (sym value)) in
         record {
           named = ap (name_of j.prefer t) value ∙ (h.named ∙ ap Some (sym name));
           placed = placed;
@@ -126,14 +137,16 @@ module _ (a b : Judged) (side : ComparedReport) (c : ℕ) where
   at_last i m end h = record { first = all_put value_of a b side all (drop i all) m (drop_all i all end) h.filling; each = h.each }
 
   -- the selections of the contest at a position that has an object
-  pub values_there : (v : Data) → Some v ≡ option_map (λ (o : Placed). o.value) (slice_get (objects family.Contest (view its.tree)) c) → all ≡ entries_at (codes "ContestSelection") v
+  pub values_there : (v : Data) → Some v ≡ option_map (λ (o : Placed). o.value) (slice_get (objects family.Contest (view its.tree)) c)
+      → all ≡ entries_at (codes "ContestSelection") v
   values_there v is = at (slice_get (objects family.Contest (view its.tree)) c) is
     where
       at : (o : Option Placed) → Some v ≡ option_map (λ (o : Placed). o.value) o → values_of o ≡ entries_at (codes "ContestSelection") v
       at None e = cc
       at (Some o) e = let same : v ≡ o.value = cc in ap (entries_at (codes "ContestSelection")) (sym same)
 
-  module _ (v : Data) (is : Some v ≡ option_map (λ (o : Placed). o.value) (slice_get (objects family.Contest (view its.tree)) c)) (vs : List Value) (entries : map view vs ≡ entries_at (codes "ContestSelection") v) where
+  module _ (v : Data) (is : Some v ≡ option_map (λ (o : Placed). o.value) (slice_get (objects family.Contest (view its.tree)) c)) (vs : List Value)
+      (entries : map view vs ≡ entries_at (codes "ContestSelection") v) where
     pub count_there : length all ≡ length vs
     count_there = ap length (values_there v is ∙ sym entries) ∙ length-map vs view
 
@@ -148,7 +161,8 @@ module _ (a b : Judged) (side : ComparedReport) (c : ℕ) where
       pub next_position : start + i < length (objects family.Selection (view its.tree))
       next_position = slice_get_within (objects family.Selection (view its.tree)) (start + i) next_object.0 next_object.1
 
-      module _ (m : Numbered NamedSelection) (h : AreNumberedUpTo i m) (found : Option (ℕ × NamedSelection)) (tells : option_map number_and_value found ≡ both_there a b side (start + i)) where
+      module _ (m : Numbered NamedSelection) (h : AreNumberedUpTo i m) (found : Option (ℕ × NamedSelection))
+          (tells : option_map number_and_value found ≡ both_there a b side (start + i)) where
         left : IsFilling value_of a b side all (next.0 ∷ drop (i + 1) all) m
         left = subst (λ ds. IsFilling value_of a b side all ds m) (left_there all i next.0 next.1) h.filling
 
@@ -164,7 +178,8 @@ module _ (a b : Judged) (side : ComparedReport) (c : ℕ) where
         -- it has no name
         pub one_nameless : found ≡ None → AreNumberedUpTo (i + 1) m
         one_nameless none = record {
-          filling = unnamed value_of a b side all (drop (i + 1) all) next.0 m (at (number_of_selection a b side next.0) (sym (ap (option_map number_and_value) none) ∙ told_here)) left;
+          filling = unnamed value_of a b side all (drop (i + 1) all) next.0 m
+              (at (number_of_selection a b side next.0) (sym (ap (option_map number_and_value) none) ∙ told_here)) left;
           each = h.each;
         }
           where
@@ -178,7 +193,8 @@ module _ (a b : Judged) (side : ComparedReport) (c : ℕ) where
             where
               at : (o : Option ℕ) → Some (number_and_value (k, s)) ≡ option_map its_value o → (Some k ≡ o) × (value_of s ≡ next.0)
               at None e = cc
-              at (Some l) e = let pair : ◌≡◌ {A = ℕ × Data} (k, value_of s) (l, next.0) = same_Some (number_and_value (k, s)) (its_value l) e in (ap (λ (p : ℕ × Data). Some p.0) pair, ap (λ (p : ℕ × Data). p.1) pair)
+              at (Some l) e = let pair : ◌≡◌ {A = ℕ × Data} (k, value_of s) (l, next.0) = same_Some (number_and_value (k, s)) (its_value l) e in
+                  (ap (λ (p : ℕ × Data). Some p.0) pair, ap (λ (p : ℕ × Data). p.1) pair)
 
           -- one with this name is there
           pub one_before : is_some (at_number m k) ≡ true → AreNumberedUpTo (i + 1) m
@@ -188,7 +204,8 @@ module _ (a b : Judged) (side : ComparedReport) (c : ℕ) where
           }
 
           -- none is, and so it is put there
-          pub one_first : (n : Numbered NamedSelection) → is_some (at_number m k) ≡ false → ((q : ℕ) → at_number n q ≡ cond (k == q) (Some s) (at_number m q)) → IsNamedOn a b side s → AreNumberedUpTo (i + 1) n
+          pub one_first : (n : Numbered NamedSelection) → is_some (at_number m k) ≡ false → ((q : ℕ) → at_number n q ≡ cond (k == q) (Some s) (at_number m q))
+              → IsNamedOn a b side s → AreNumberedUpTo (i + 1) n
           one_first n new updates named = record {
             filling = named_first value_of a b side all (drop (i + 1) all) next.0 s k m n pair_here.0 new updates pair_here.1 left;
             each = λ q r is. at q r (k == q) (sym (updates q) ∙ is);
@@ -215,7 +232,8 @@ inserted_kept : (n k : ℕ) (ks : List ℕ) → Stands n ks → Stands n (insert
 inserted_kept n k [] h = absurd h
 inserted_kept n k (x ∷ xs) h = at (nat_cmp k x) (inserted_kept n k xs) h
   where
-    at : (o : Ordering) → (Stands n xs → Stands n (insert_key nat_cmp xs k)) → Stands n (x ∷ xs) → Stands n (match_ordering o (k ∷ x ∷ xs) (x ∷ xs) (x ∷ insert_key nat_cmp xs k))
+    at : (o : Ordering) → (Stands n xs → Stands n (insert_key nat_cmp xs k)) → Stands n (x ∷ xs)
+        → Stands n (match_ordering o (k ∷ x ∷ xs) (x ∷ xs) (x ∷ insert_key nat_cmp xs k))
     at Less more h = inr h
     at Equal more h = h
     at Greater more (inl e) = inl e
@@ -229,7 +247,8 @@ pub record AreAdded (all rest : Numbered NamedSelection) (before now : List ℕ)
 pub none_added : (es rest : Numbered NamedSelection) (before : List ℕ) → rest ≡ es → AreAdded es rest before before
 none_added es rest before is = record { kept = λ k s. s; added = λ k s. inl (subst (λ xs. Stands k (keys_of xs)) (sym is) s) }
 
-pub one_added : {all rest left : Numbered NamedSelection} (e : ℕ × NamedSelection) → left ≡ e ∷ rest → (before now after : List ℕ) → AreAdded all left before now → after ≡ insert_key nat_cmp now e.0 → AreAdded all rest before after
+pub one_added : {all rest left : Numbered NamedSelection} (e : ℕ × NamedSelection) → left ≡ e ∷ rest → (before now after : List ℕ)
+    → AreAdded all left before now → after ≡ insert_key nat_cmp now e.0 → AreAdded all rest before after
 one_added {all} {rest} {left} e next before now after h is = record {
   kept = λ k s. on k (inserted_kept k e.0 now (h.kept k s));
   added = λ k s. elim (subst (λ es. Stands k (keys_of es) ⊎ Stands k now) next (h.added k s)) [

@@ -1,5 +1,6 @@
 -- The differences that are told whole, one after another as far as their texts fit, are the longest run.
-use Rattle.erd_compare.proofs.Common.{[], ◌≡◌, ℕ, zero, suc, true, false, ◌+◌, ◌<◌, List, ◌∷◌, ◌++◌, take, drop, Some, None, Option, sym, refl, ap, ◌∙◌, subst, append-nil, arith, AllByRecursion, Meaning, Difference}
+use Rattle.erd_compare.proofs.Common.{[], ◌≡◌, ℕ, zero, suc, true, false, ◌+◌, ◌<◌, List, ◌∷◌, ◌++◌, take, drop, Some, None, Option, sym, refl, ap, ◌∙◌, subst}
+use Rattle.erd_compare.proofs.Common.{append-nil, arith, AllByRecursion, Meaning, Difference}
 use Rattle.std.proofs.lemmas.List.{append_assoc}
 use Rattle.std.proofs.lemmas.List.Sums.{sum_by-cons}
 use Rattle.erd_compare.specs.SelectionDifferences.{is_in_selections, selections_with_key, text_size, told_with, IsBare, IsLongestRun, NoneFits, TellsAll}
@@ -10,7 +11,8 @@ use Rattle.erd_compare.specs.declared.inside.room.Room.{Room}
 
 module _ (m n : Meaning) (d : Difference) where
   -- a difference before those that may be told
-  next_before : (first next : ℕ) (bytes after : Option ℕ) → 0 < first → next + 1 ≡ first → after ≡ bytes → (e : DetailedDifference) (rest : List DetailedDifference) → told_with e ≡ None → AreTold m n next after rest → AreTold m n first bytes (e ∷ rest)
+  next_before : (first next : ℕ) (bytes after : Option ℕ) → 0 < first → next + 1 ≡ first → after ≡ bytes
+      → (e : DetailedDifference) (rest : List DetailedDifference) → told_with e ≡ None → AreTold m n next after rest → AreTold m n first bytes (e ∷ rest)
   next_before zero next bytes after low one same e rest bare told = absurd (omega (arith, low))
   next_before (suc first) next bytes after low one same e rest bare told =
       let less : next ≡ first = omega (arith, one) in
@@ -22,9 +24,11 @@ module _ (m n : Meaning) (d : Difference) where
   -- one that may
   abbrev Passes : Option (List SelectionDifference) → Option ℕ → Option ℕ → Type 0
   Passes told None after = (told ≡ None) × (after ≡ None)
-  Passes told (Some room) after = (inside : Option (List SelectionDifference)) × TellsAll m n d inside × Leaves (text_size inside) room after × (told ≡ if_left after inside)
+  Passes told (Some room) after = (inside : Option (List SelectionDifference)) × TellsAll m n d inside × Leaves (text_size inside) room after
+      × (told ≡ if_left after inside)
 
-  next_here : (first next : ℕ) (bytes after : Option ℕ) (told : Option (List SelectionDifference)) → first ≡ 0 → next ≡ first → Passes told bytes after → (e : DetailedDifference) (rest : List DetailedDifference) → e.difference ≡ d → told_with e ≡ told
+  next_here : (first next : ℕ) (bytes after : Option ℕ) (told : Option (List SelectionDifference)) → first ≡ 0 → next ≡ first → Passes told bytes after
+      → (e : DetailedDifference) (rest : List DetailedDifference) → e.difference ≡ d → told_with e ≡ told
       → AreTold m n next after rest → AreTold m n first bytes (e ∷ rest)
   next_here (suc first) next bytes after told none same passes e rest is tells later = absurd (omega (arith, none))
   next_here zero next None after told none same (nothing, end) e rest is tells later =
@@ -33,18 +37,22 @@ module _ (m n : Meaning) (d : Difference) where
       (inside, after, subst (λ x. TellsAll m n x inside) (sym is) all, leaves, tells ∙ shown, subst (λ f. AreTold m n f after rest) same later)
 
   -- one that is in no selections
-  pub passed_beside : (before after : Room) → before.first ≡ 0 → after.first ≡ before.first → after.bytes ≡ before.bytes → is_in_selections d ≡ false → PassesOne m n d None before after
+  pub passed_beside : (before after : Room) → before.first ≡ 0 → after.first ≡ before.first → after.bytes ≡ before.bytes → is_in_selections d ≡ false
+      → PassesOne m n d None before after
   passed_beside before after none first same outside e rest is tells later =
-      next_here before.first after.first before.bytes after.bytes None none first (subst (Passes None before.bytes) (sym same) (at before.bytes)) e rest is tells later
+      next_here before.first after.first before.bytes after.bytes None none first
+      (subst (Passes None before.bytes) (sym same) (at before.bytes)) e rest is tells later
     where
       at : (bytes : Option ℕ) → Passes None bytes bytes
       at None = (refl, refl)
       at (Some room) = (None, outside, omega arith, refl)
 
   -- one that is in the selections of a contest
-  pub passed_inside : is_in_selections d ≡ true → (before after : Room) → before.first ≡ 0 → after.first ≡ before.first → (told : Option (List SelectionDifference))
+  pub passed_inside : is_in_selections d ≡ true → (before after : Room) → before.first ≡ 0 → after.first ≡ before.first
+      → (told : Option (List SelectionDifference))
       → PassesInside (selections_with_key m d.key) (selections_with_key n d.key) told before.bytes after.bytes → PassesOne m n d told before after
-  passed_inside inside before after none first told passes e rest is tells later = next_here before.first after.first before.bytes after.bytes told none first (at before.bytes after.bytes passes) e rest is tells later
+  passed_inside inside before after none first told passes e rest is tells later =
+      next_here before.first after.first before.bytes after.bytes told none first (at before.bytes after.bytes passes) e rest is tells later
     where
       at : (bytes left : Option ℕ) → PassesInside (selections_with_key m d.key) (selections_with_key n d.key) told bytes left → Passes told bytes left
       at None left h = h
@@ -54,16 +62,19 @@ module _ (m n : Meaning) (d : Difference) where
 
 -- with what is told of the rest, all is told
 abbrev pub AreToldUpTo : Meaning → Meaning → ℕ → ℕ → List DetailedDifference → Room → Type 0
-AreToldUpTo m n first most found room = (rest : List DetailedDifference) → AreTold m n room.first room.bytes rest → AreTold m n first (Some most) (found ++ rest)
+AreToldUpTo m n first most found room = (rest : List DetailedDifference) → AreTold m n room.first room.bytes rest
+    → AreTold m n first (Some most) (found ++ rest)
 
 module _ (m n : Meaning) (first most : ℕ) where
   pub none_told : (found : List DetailedDifference) → found ≡ [] → AreToldUpTo m n first most found (record { first = first; bytes = Some most })
   none_told found none rest later = subst (λ es. AreTold m n first (Some most) (es ++ rest)) (sym none) later
 
-  pub one_told : (found after : List DetailedDifference) (d : Difference) (e : DetailedDifference) (told : Option (List SelectionDifference)) (before next : Room) → AreToldUpTo m n first most found before
+  pub one_told : (found after : List DetailedDifference) (d : Difference) (e : DetailedDifference) (told : Option (List SelectionDifference))
+      (before next : Room) → AreToldUpTo m n first most found before
       → PassesOne m n d told before next → e.difference ≡ d → told_with e ≡ told → after ≡ found ++ e ∷ [] → AreToldUpTo m n first most after next
   one_told found after d e told before next h passes is tells grown rest later =
-      subst (AreTold m n first (Some most)) (sym (append_assoc found (e ∷ []) rest) ∙ ap (λ es. es ++ rest) (sym grown)) (h (e ∷ rest) (passes e rest is tells later))
+      subst (AreTold m n first (Some most)) (sym (append_assoc found (e ∷ []) rest) ∙ ap (λ es. es ++ rest) (sym grown))
+      (h (e ∷ rest) (passes e rest is tells later))
 
   pub all_told : (found : List DetailedDifference) (room : Room) → AreToldUpTo m n first most found room → AreTold m n first (Some most) found
   all_told found room h = subst (AreTold m n first (Some most)) (append-nil found) (h [] tt)
@@ -114,7 +125,8 @@ module _ (m n : Meaning) where
   }
 
   -- and those before the first are not told
-  pub as_bounded : (first most : ℕ) (ds : List DetailedDifference) → AreTold m n first (Some most) ds → AllByRecursion IsBare (take first ds) × IsLongestRun m n most (drop first ds)
+  pub as_bounded : (first most : ℕ) (ds : List DetailedDifference) → AreTold m n first (Some most) ds → AllByRecursion IsBare (take first ds)
+      × IsLongestRun m n most (drop first ds)
   as_bounded zero most ds h = (tt, longest most ds h)
   as_bounded (suc first) most [] h = (tt, longest most [] tt)
   as_bounded (suc first) most (d ∷ ds) (bare, later) = let rest = as_bounded first most ds later in ((bare, rest.0), rest.1)

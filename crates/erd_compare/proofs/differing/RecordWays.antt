@@ -1,5 +1,11 @@
 -- The ways in which two records differ: in rising order, each of them a way, and all of them or the first.
-use Rattle.erd_compare.proofs.Common.{◌≡◌, ◌≢◌, ℕ, Bool, true, List, [], ◌∷◌, map, Some, None, Option, Ordering, sym, refl, ap, ap₂, ◌∙◌, subst, inl, inr, AllByRecursion, In-map, In-map_from, In-all, option_cmp, text_cmp, Class, MemberValue, ObjectRecord, Differ, DifferIn, AgreeBut, Stands, first_of, member_of, How, Member, OnlyLeft, OnlyRight, OtherClass, hows_of, AreWays, DifferInNames, Ways, ways, suc, ◌+◌, false, cond, ◌⊎◌, codes, bytes_eq, is_eq, is_lt, Less, Equal, Greater, arith, nat_list_cmp_total, exact_bytes, bytes_eq-Decides, In, a_key, a_plain, with_election_id, record_in_election, is_eq-slice_cmp, other_than_election, greater_turned, Key, TellsLeastName, DifferAtName, MemberMap, with_name, HasNoElectionId, Bor, true≢false, fun_ext}
+use Rattle.erd_compare.proofs.Common.{◌≡◌, ◌≢◌, ℕ, Bool, true, List, [], ◌∷◌, map, Some, None, Option, Ordering, sym, refl, ap, ap₂, ◌∙◌, subst, inl, inr}
+use Rattle.erd_compare.proofs.Common.{AllByRecursion, In-map, In-map_from, In-all, option_cmp, text_cmp, Class, MemberValue, ObjectRecord, Differ, DifferIn}
+use Rattle.erd_compare.proofs.Common.{AgreeBut, Stands, first_of, member_of, How, Member, OnlyLeft, OnlyRight, OtherClass, hows_of, AreWays, DifferInNames}
+use Rattle.erd_compare.proofs.Common.{Ways, ways, suc, ◌+◌, false, cond, ◌⊎◌, codes, bytes_eq, is_eq, is_lt, Less, Equal, Greater, arith, nat_list_cmp_total}
+use Rattle.erd_compare.proofs.Common.{exact_bytes, bytes_eq-Decides, In, a_key, a_plain, with_election_id, record_in_election, is_eq-slice_cmp}
+use Rattle.erd_compare.proofs.Common.{other_than_election, greater_turned, Key, TellsLeastName, DifferAtName, MemberMap, with_name, HasNoElectionId, Bor}
+use Rattle.erd_compare.proofs.Common.{true≢false, fun_ext}
 use Rattle.std.specs.List.Sorted.{IsStrictlySortedBy}
 use Rattle.erd_meaning.specs.Meaning.{Record}
 use Rattle.erd_check.proofs.Order.{all_from_In, sorted_map}
@@ -141,7 +147,8 @@ ways_all (Some a) (Some b) ways.OtherClass h = inl (inl refl)
 ways_all x y (ways.Members names) h = names_all x y (map (λ s. s.now) names.items) h
 
 -- records that are told of agree if more is told
-pub agree_more : {V : Type 0} (told more : How → Type 0) → ((how : How) → told how → more how) → (x y : Option (Record V)) → AgreeBut told x y → AgreeBut more x y
+pub agree_more : {V : Type 0} (told more : How → Type 0) → ((how : How) → told how → more how) → (x y : Option (Record V))
+    → AgreeBut told x y → AgreeBut more x y
 agree_more told more on None None h = tt
 agree_more told more on (Some a) None h = on OnlyLeft h
 agree_more told more on None (Some b) h = on OnlyRight h
@@ -174,7 +181,8 @@ abbrev pub lesser_count : List ℕ → List (Bor (List ℕ)) → ℕ
 lesser_count name ss = prefix_len (λ s. is_lt (text_cmp s name)) (map (λ s. s.now) ss)
 
 -- the name is put before that one
-pub inserted : (name : Bor (List ℕ)) (ss : List (Bor (List ℕ))) → map (λ s. s.now) (insert ss (lesser_count name.now ss) name) ≡ with_name name.now (map (λ s. s.now) ss)
+pub inserted : (name : Bor (List ℕ)) (ss : List (Bor (List ℕ))) → map (λ s. s.now) (insert ss (lesser_count name.now ss) name)
+    ≡ with_name name.now (map (λ s. s.now) ss)
 inserted name [] = refl
 inserted name (s ∷ ss) = at (is_lt (text_cmp s.now name.now)) (inserted name ss)
   where
@@ -184,7 +192,8 @@ inserted name (s ∷ ss) = at (is_lt (text_cmp s.now name.now)) (inserted name s
     names : List (List ℕ)
     names = map (λ s. s.now) ss
 
-    at : (b : Bool) → map (λ s. s.now) (insert ss place name) ≡ with_name name.now names → map (λ s. s.now) (insert (s ∷ ss) (cond b (1 + place) 0) name) ≡ cond b (s.now ∷ with_name name.now names) (name.now ∷ s.now ∷ names)
+    at : (b : Bool) → map (λ s. s.now) (insert ss place name) ≡ with_name name.now names → map (λ s. s.now) (insert (s ∷ ss) (cond b (1 + place) 0) name)
+        ≡ cond b (s.now ∷ with_name name.now names) (name.now ∷ s.now ∷ names)
     at false e = refl
     at true e =
         let one : suc place ≡ 1 + place = omega arith in
@@ -230,7 +239,8 @@ module _ (name : List ℕ) where
       above low x (inl e) = subst (λ z. text_cmp name z ≡ Less) e low
       above low x (inr i) = nat_list_cmp_total.trans name k x low (In-all (λ z. text_cmp k z ≡ Less) x ks rise.0 i)
 
-      at : (o : Ordering) → text_cmp k name ≡ o → IsStrictlySortedBy text_cmp (with_name name ks) → IsStrictlySortedBy text_cmp (cond (is_lt o) (k ∷ with_name name ks) (name ∷ k ∷ ks))
+      at : (o : Ordering) → text_cmp k name ≡ o → IsStrictlySortedBy text_cmp (with_name name ks)
+          → IsStrictlySortedBy text_cmp (cond (is_lt o) (k ∷ with_name name ks) (name ∷ k ∷ ks))
       at Less is more = (all_from_In (λ z. text_cmp k z ≡ Less) (with_name name ks) (λ x i. later is x (parts x ks i)), more)
       at Equal is more = absurd (other k (inl refl) (exact_bytes k name is))
       at Greater is more = (all_from_In (λ z. text_cmp name z ≡ Less) (k ∷ ks) (above (greater_turned nat_list_cmp_total k name is)), rise)
@@ -247,15 +257,18 @@ same_held None m n name same = same
 same_held (Some k) m n name same = ap (λ v. cond (bytes_eq name election_id) (Some (a_plain (a_key (Some k)))) v) same
 
 -- at any name but that of the member they do with any keys
-same_other : (k l : Option Key) (m n : MemberMap) (name : List ℕ) → bytes_eq name election_id ≡ false → m name ≡ n name → with_election_id k m name ≡ with_election_id l n name
+same_other : (k l : Option Key) (m n : MemberMap) (name : List ℕ) → bytes_eq name election_id ≡ false → m name ≡ n name → with_election_id k m name
+    ≡ with_election_id l n name
 same_other k l m n name other same = other_than_election k m name other ∙ (same ∙ sym (other_than_election l n name other))
 
 -- and where they differ, they do with any keys
-differ_held : (k l : Option Key) (m n : MemberMap) (name : List ℕ) → bytes_eq name election_id ≡ false → m name ≢ n name → with_election_id k m name ≢ with_election_id l n name
+differ_held : (k l : Option Key) (m n : MemberMap) (name : List ℕ) → bytes_eq name election_id ≡ false → m name ≢ n name
+    → with_election_id k m name ≢ with_election_id l n name
 differ_held k l m n name other differ e = differ (sym (other_than_election k m name other) ∙ (e ∙ other_than_election l n name other))
 
 -- the keys apart
-keys_apart : (k l : Option Key) (m n : MemberMap) → m election_id ≡ None → n election_id ≡ None → with_election_id k m election_id ≡ with_election_id l n election_id → k ≡ l
+keys_apart : (k l : Option Key) (m n : MemberMap) → m election_id ≡ None → n election_id ≡ None → with_election_id k m election_id
+    ≡ with_election_id l n election_id → k ≡ l
 keys_apart None None m n a b e = refl
 keys_apart (Some k) (Some l) m n a b e = cc
 keys_apart k l m n a b e = cc
@@ -274,7 +287,8 @@ module _ (m n : MemberMap) (left : m election_id ≡ None) (right : n election_i
     pub names_of_one : (k : Option Key) → AreNames all (with_election_id k m) (with_election_id k n) names
     names_of_one k = record {
       rise = h.rise;
-      differ = all_from_In (λ x. with_election_id k m x ≢ with_election_id k n x) names (λ x i. let own = In-all (λ z. m z ≢ n z) x names h.differ i in differ_held k k m n x (another x own) own);
+      differ = all_from_In (λ x. with_election_id k m x ≢ with_election_id k n x) names (λ x i. let own = In-all (λ z. m z ≢ n z) x names h.differ i in
+          differ_held k k m n x (another x own) own);
       first = at (first_of names) h.first;
       each = λ yes x. elim (h.each yes x) [
         | inl same ↦ inl (same_held k m n x same)
@@ -284,7 +298,8 @@ module _ (m n : MemberMap) (left : m election_id ≡ None) (right : n election_i
       where
         at : (o : Option (List ℕ)) → TellsLeastName m n o → TellsLeastName (with_election_id k m) (with_election_id k n) o
         at None same = ap (with_election_id k) same
-        at (Some name) told = record { differ = differ_held k k m n name (another name told.differ) told.differ; least = λ j low. same_held k m n j (told.least j low) }
+        at (Some name) told =
+            record { differ = differ_held k k m n name (another name told.differ) told.differ; least = λ j low. same_held k m n j (told.least j low) }
 
     -- with two keys they also differ in the member
     pub names_of_two : (k l : Option Key) → (k ≡ l → ⊥) → AreNames all (with_election_id k m) (with_election_id l n) (with_name election_id names)
@@ -324,13 +339,15 @@ module _ (m n : MemberMap) (left : m election_id ≡ None) (right : n election_i
         first [] same = told_member (λ x low. ap (λ f. f x) same)
         first (y ∷ ys) told = by (text_cmp y election_id) refl
           where
-            by : (o : Ordering) → text_cmp y election_id ≡ o → TellsLeastName mine its (first_of (cond (is_lt o) (y ∷ with_name election_id ys) (election_id ∷ y ∷ ys)))
+            by : (o : Ordering) → text_cmp y election_id ≡ o
+                → TellsLeastName mine its (first_of (cond (is_lt o) (y ∷ with_name election_id ys) (election_id ∷ y ∷ ys)))
             by Less is = record {
               differ = differ_held k l m n y (less_other y election_id is) told.differ;
               least = λ x low. below x (nat_list_cmp_total.trans x y election_id low is) (told.least x low);
             }
             by Equal is = absurd (told.differ (subst (λ z. m z ≡ n z) (sym (exact_bytes y election_id is)) (left ∙ sym right)))
-            by Greater is = told_member (λ x low. told.least x (nat_list_cmp_total.trans x election_id y low (greater_turned nat_list_cmp_total y election_id is)))
+            by Greater is =
+                told_member (λ x low. told.least x (nat_list_cmp_total.trans x election_id y low (greater_turned nat_list_cmp_total y election_id is)))
 
         at : (x : List ℕ) (c : Bool) → bytes_eq x election_id ≡ c → (m x ≡ n x) ⊎ Stands x names → (mine x ≡ its x) ⊎ Stands x (with_name election_id names)
         at x true is own = inr (to_stands x (with_name election_id names) (whole election_id x names (inl (sym ((bytes_eq-Decides x election_id).0 is)))))
@@ -349,7 +366,8 @@ module _ (all : Bool) (k l : Option Key) (a b : ObjectRecord) (left : HasNoElect
       subst (λ x. DifferInNames all (Some (record_in_election k a)) (Some (record_in_election x b)) (map (λ s. s.now) names.items)) same
       (h.0, names_of_one a.members b.members left right all (map (λ s. s.now) names.items) h.1 k)
 
-  pub ways_of_two : (names : List (List ℕ)) → (k ≡ l → ⊥) → DifferInNames all (Some a) (Some b) names → DifferInNames all (Some (record_in_election k a)) (Some (record_in_election l b)) (with_name election_id names)
+  pub ways_of_two : (names : List (List ℕ)) → (k ≡ l → ⊥) → DifferInNames all (Some a) (Some b) names → DifferInNames all (Some (record_in_election k a))
+      (Some (record_in_election l b)) (with_name election_id names)
   ways_of_two names apart h = (h.0, names_of_two a.members b.members left right all names h.1 k l apart)
 
 -- ---- the names that a walk in step found: all at which two maps differ, or the first

@@ -1,5 +1,11 @@
 -- A walk in step over the rising keys of two maps, which finds the keys at which the maps differ.
-use Rattle.erd_compare.proofs.Common.{◌≡◌, ◌≢◌, ◌⊎◌, List, [], ◌∷◌, ◌++◌, None, Option, Ordering, Less, sym, refl, ◌∙◌, subst, inl, inr, IsTotalOrder, AllByRecursion, In, In-all, all_weakened, not_below_itself, ℕ, suc, ◌+◌, ◌<◌, ◌≤◌, Bool, true, false, cond, length, Some, option_map, bytes_eq, is_eq, is_lt, Equal, Greater, ap, ap₂, arith, Bor, nat_list_cmp_total, exact_bytes, same_Some, IsStrictlySortedBy, Data, object, Members, no_members, member, get_member, get, as_object, text_cmp, IsTree, AreMembers, names, text_itself, get_member-first, get_member-later, found_cases, greater_turned, less_turned, lesser_name, first_of, names_past, AreMembersOf, MemberMap, IsMapOf, Stands, true≢false, view, Decides, DecideNames, IsPairOf, MemberPair, Judged, Class, member_of_class, member_found, absent_member}
+use Rattle.erd_compare.proofs.Common.{◌≡◌, ◌≢◌, ◌⊎◌, List, [], ◌∷◌, ◌++◌, None, Option, Ordering, Less, sym, refl, ◌∙◌, subst, inl, inr, IsTotalOrder}
+use Rattle.erd_compare.proofs.Common.{AllByRecursion, In, In-all, all_weakened, not_below_itself, ℕ, suc, ◌+◌, ◌<◌, ◌≤◌, Bool, true, false, cond, length, Some}
+use Rattle.erd_compare.proofs.Common.{option_map, bytes_eq, is_eq, is_lt, Equal, Greater, ap, ap₂, arith, Bor, nat_list_cmp_total, exact_bytes, same_Some}
+use Rattle.erd_compare.proofs.Common.{IsStrictlySortedBy, Data, object, Members, no_members, member, get_member, get, as_object, text_cmp, IsTree, AreMembers}
+use Rattle.erd_compare.proofs.Common.{names, text_itself, get_member-first, get_member-later, found_cases, greater_turned, less_turned, lesser_name, first_of}
+use Rattle.erd_compare.proofs.Common.{names_past, AreMembersOf, MemberMap, IsMapOf, Stands, true≢false, view, Decides, DecideNames, IsPairOf, MemberPair}
+use Rattle.erd_compare.proofs.Common.{Judged, Class, member_of_class, member_found, absent_member}
 use Rattle.std.specs.List.Sorted.{IsStrictlySortedBy}
 use Rattle.std.proofs.lemmas.Map.Keys.{sorted_head, sorted_tail}
 use Rattle.erd_check.proofs.Order.{sorted_append}
@@ -35,9 +41,11 @@ pub stands_behind : {A : Type 0} (x : A) (xs ys : List A) → Stands x ys → St
 stands_behind x [] ys h = h
 stands_behind x (z ∷ xs) ys h = inr (stands_behind x xs ys h)
 
-rise_added : {A : Type 0} (cmp : A → A → Ordering) (xs : List A) (x : A) → IsStrictlySortedBy cmp xs → AllByRecursion (λ y. cmp y x ≡ Less) xs → IsStrictlySortedBy cmp (xs ++ (x ∷ []))
+rise_added : {A : Type 0} (cmp : A → A → Ordering) (xs : List A) (x : A) → IsStrictlySortedBy cmp xs → AllByRecursion (λ y. cmp y x ≡ Less) xs
+    → IsStrictlySortedBy cmp (xs ++ (x ∷ []))
 unfolding IsStrictlySortedBy
-rise_added cmp xs x rise low = sorted_append cmp xs (x ∷ []) rise (tt, tt) (λ a b i j. elim j [ inl e ↦ subst (λ z. cmp a z ≡ Less) e (In-all (λ y. cmp y x ≡ Less) a xs low i) | inr none ↦ absurd none ])
+rise_added cmp xs x rise low = sorted_append cmp xs (x ∷ []) rise (tt, tt)
+    (λ a b i j. elim j [ inl e ↦ subst (λ z. cmp a z ≡ Less) e (In-all (λ y. cmp y x ≡ Less) a xs low i) | inr none ↦ absurd none ])
 
 -- ---- a key is passed by
 
@@ -53,7 +61,8 @@ pub record IsPast {K : Type 0} (cmp : K → K → Ordering) (k : K) (ks ls : Lis
   pub beside : (j : K) → Stands j ks → (k ≡ j) ⊎ Stands j ls
 
 pub past_head : {K : Type 0} {cmp : K → K → Ordering} {k : K} {ks : List K} → IsStrictlySortedBy cmp (k ∷ ks) → IsPast cmp k (k ∷ ks) ks
-past_head {K} {cmp} {k} {ks} rise = record { rises = sorted_tail cmp k ks rise; below = sorted_head cmp k ks rise; also_below = λ j h. h.1; beside = λ j inside. inside }
+past_head {K} {cmp} {k} {ks} rise =
+    record { rises = sorted_tail cmp k ks rise; below = sorted_head cmp k ks rise; also_below = λ j h. h.1; beside = λ j inside. inside }
 
 pub past_below : {K : Type 0} {cmp : K → K → Ordering} {ks : List K} (k : K) → IsStrictlySortedBy cmp ks → IsBelowAll cmp k ks → IsPast cmp k ks ks
 past_below k rise below = record { rises = rise; below = below; also_below = λ j h. h; beside = λ j inside. inr inside }
@@ -75,11 +84,13 @@ module _ {K : Type 0} {cmp : K → K → Ordering} (total : IsTotalOrder cmp) wh
 -- ---- walks
 
 -- at first all keys are left
-pub all_left : {K V : Type 0} (cmp : K → K → Ordering) (m n : K → Option V) (ls rs : List K) → IsStrictlySortedBy cmp ls → IsStrictlySortedBy cmp rs → ((k : K) → IsOnlyAmong m ls k) → ((k : K) → IsOnlyAmong n rs k) → IsWalked cmp m n [] ls rs
+pub all_left : {K V : Type 0} (cmp : K → K → Ordering) (m n : K → Option V) (ls rs : List K) → IsStrictlySortedBy cmp ls → IsStrictlySortedBy cmp rs
+    → ((k : K) → IsOnlyAmong m ls k) → ((k : K) → IsOnlyAmong n rs k) → IsWalked cmp m n [] ls rs
 unfolding IsStrictlySortedBy
 all_left cmp m n ls rs left right mine its = record { left = left; right = right; each = λ k. inr (mine k, its k); rise = tt; differ = tt; before = tt }
 
-among_past : {K V : Type 0} {cmp : K → K → Ordering} (f : K → Option V) (j k : K) (ks ls : List K) → IsPast cmp k ks ls → IsOnlyAmong f ks j → (k ≡ j) ⊎ IsOnlyAmong f ls j
+among_past : {K V : Type 0} {cmp : K → K → Ordering} (f : K → Option V) (j k : K) (ks ls : List K) → IsPast cmp k ks ls → IsOnlyAmong f ks j
+    → (k ≡ j) ⊎ IsOnlyAmong f ls j
 among_past f j k ks ls past (inl none) = inr (inl none)
 among_past f j k ks ls past (inr inside) = elim (past.beside j inside) [
   | inl e ↦ inl e
@@ -101,7 +112,8 @@ module _ {K V : Type 0} {cmp : K → K → Ordering} {m n : K → Option V} {fou
   all_found left right = record { rise = step.rise; differ = step.differ; all = λ k. told_at k (left k) (right k) }
 
   module _ {k : K} {ls' rs' : List K} (left : IsPast cmp k ls ls') (right : IsPast cmp k rs rs') where
-    each_past : (found' : List K) → ((j : K) → Stands j found → Stands j found') → (m k ≡ n k) ⊎ Stands k found' → (j : K) → WasPassed cmp m n found' ls' rs' j ⊎ (IsOnlyAmong m ls' j × IsOnlyAmong n rs' j)
+    each_past : (found' : List K) → ((j : K) → Stands j found → Stands j found') → (m k ≡ n k) ⊎ Stands k found' → (j : K) → WasPassed cmp m n found' ls' rs' j
+        ⊎ (IsOnlyAmong m ls' j × IsOnlyAmong n rs' j)
     each_past found' more here j = at (step.each j)
       where
         told : (m j ≡ n j) ⊎ Stands j found → (m j ≡ n j) ⊎ Stands j found'
@@ -116,16 +128,26 @@ module _ {K V : Type 0} {cmp : K → K → Ordering} {m n : K → Option V} {fou
         both (inl e) its = inl (this e)
         both mine (inl e) = inl (this e)
 
-        at : WasPassed cmp m n found ls rs j ⊎ (IsOnlyAmong m ls j × IsOnlyAmong n rs j) → WasPassed cmp m n found' ls' rs' j ⊎ (IsOnlyAmong m ls' j × IsOnlyAmong n rs' j)
+        at : WasPassed cmp m n found ls rs j ⊎ (IsOnlyAmong m ls j × IsOnlyAmong n rs j) → WasPassed cmp m n found' ls' rs' j
+            ⊎ (IsOnlyAmong m ls' j × IsOnlyAmong n rs' j)
         at (inl passed) = inl (record { told = told passed.told; left = left.also_below j passed.left; right = right.also_below j passed.right })
         at (inr (mine, its)) = both (among_past m j k ls ls' left mine) (among_past n j k rs rs' right its)
 
     before_past : AllByRecursion (λ j. IsBelowAll cmp j ls' × IsBelowAll cmp j rs') found
-    before_past = all_weakened (λ j. IsBelowAll cmp j ls × IsBelowAll cmp j rs) (λ j. IsBelowAll cmp j ls' × IsBelowAll cmp j rs') found (λ j h. (left.also_below j h.0, right.also_below j h.1)) step.before
+    before_past = all_weakened (λ j. IsBelowAll cmp j ls × IsBelowAll cmp j rs) (λ j. IsBelowAll cmp j ls' × IsBelowAll cmp j rs') found
+        (λ j h. (left.also_below j h.0, right.also_below j h.1)) step.before
 
     -- a key at which the maps are equal is passed by
     pub pass_same : m k ≡ n k → IsWalked cmp m n found ls' rs'
-    pass_same same = record { left = left.rises; right = right.rises; each = each_past found (λ j h. h) (inl same); rise = step.rise; differ = step.differ; before = before_past }
+    pass_same same =
+        record {
+          left = left.rises;
+          right = right.rises;
+          each = each_past found (λ j h. h) (inl same);
+          rise = step.rise;
+          differ = step.differ;
+          before = before_past;
+        }
 
     -- one at which they differ is found
     pub pass_differing : m k ≢ n k → Stands k ls ⊎ Stands k rs → IsWalked cmp m n (found ++ (k ∷ [])) ls' rs'
@@ -133,7 +155,8 @@ module _ {K V : Type 0} {cmp : K → K → Ordering} {m n : K → Option V} {fou
       left = left.rises;
       right = right.rises;
       each = each_past (found ++ (k ∷ [])) (λ j h. stands_before j found (k ∷ []) h) (inr (stands_behind k found (k ∷ []) (inl refl)));
-      rise = rise_added cmp found k step.rise (all_weakened (λ j. IsBelowAll cmp j ls × IsBelowAll cmp j rs) (λ j. cmp j k ≡ Less) found (λ j h. below j h stands) step.before);
+      rise = rise_added cmp found k step.rise (all_weakened (λ j. IsBelowAll cmp j ls × IsBelowAll cmp j rs) (λ j. cmp j k ≡ Less) found
+          (λ j h. below j h stands) step.before);
       differ = all_both (λ j. m j ≢ n j) found (k ∷ []) step.differ (other, tt);
       before = all_both (λ j. IsBelowAll cmp j ls' × IsBelowAll cmp j rs') found (k ∷ []) before_past ((left.below, right.below), tt);
     }
@@ -152,11 +175,13 @@ none_there h k = elim (h.all k) [
 module _ {K V : Type 0} {cmp : K → K → Ordering} (total : IsTotalOrder cmp) {m n : K → Option V} where
   -- after one find, that is the least key at which the maps differ
   pub first_found : {k : K} {ls rs : List K} → IsWalked cmp m n (k ∷ []) ls rs → (j : K) → cmp j k ≡ Less → m j ≡ n j
-  first_found {k} {ls} {rs} step j low = elim (told_at step j (λ inside. none_less-below total k ls step.before.0.0 j inside low) (λ inside. none_less-below total k rs step.before.0.1 j inside low)) [
-    | inl same ↦ same
-    | inr (inl e) ↦ absurd (not_below_itself cmp total j (subst (λ x. cmp j x ≡ Less) e low))
-    | inr (inr none) ↦ absurd none
-  ]
+  first_found {k} {ls} {rs} step j low =
+      elim (told_at step j (λ inside. none_less-below total k ls step.before.0.0 j inside low)
+      (λ inside. none_less-below total k rs step.before.0.1 j inside low)) [
+        | inl same ↦ same
+        | inr (inl e) ↦ absurd (not_below_itself cmp total j (subst (λ x. cmp j x ≡ Less) e low))
+        | inr (inr none) ↦ absurd none
+      ]
 
   -- a key that is left of one map alone is no key of the other
   pub lacks_right : {found ls rs : List K} {k : K} → IsWalked cmp m n found (k ∷ ls) rs → IsBelowAll cmp k rs → n k ≡ None
@@ -177,7 +202,8 @@ module _ {K V : Type 0} {cmp : K → K → Ordering} (total : IsTotalOrder cmp) 
 
 -- ---- the first name that is left
 
-pub firsts_left : (f g : Option (Bor (List ℕ))) (ls rs : List (List ℕ)) (o : Option (List ℕ)) → option_map (λ k. k.now) f ≡ first_of ls → option_map (λ k. k.now) g ≡ first_of rs
+pub firsts_left : (f g : Option (Bor (List ℕ))) (ls rs : List (List ℕ)) (o : Option (List ℕ)) → option_map (λ k. k.now) f ≡ first_of ls
+    → option_map (λ k. k.now) g ≡ first_of rs
     → o ≡ lesser_name (option_map (λ k. k.now) f) (option_map (λ k. k.now) g) → lesser_name (first_of ls) (first_of rs) ≡ o
 firsts_left f g ls rs o left right e = ap₂ lesser_name (sym left) (sym right) ∙ sym e
 
@@ -202,11 +228,14 @@ next_stands ls rs k e = elim (one_of (first_of ls) (first_of rs) k e) [
 ]
 
 -- no name that is left is less
-pub none_less : (ls rs : List (List ℕ)) (k : List ℕ) → IsStrictlySortedBy text_cmp ls → IsStrictlySortedBy text_cmp rs → lesser_name (first_of ls) (first_of rs) ≡ Some k
+pub none_less : (ls rs : List (List ℕ)) (k : List ℕ) → IsStrictlySortedBy text_cmp ls → IsStrictlySortedBy text_cmp rs
+    → lesser_name (first_of ls) (first_of rs) ≡ Some k
     → NoneLess text_cmp k ls × NoneLess text_cmp k rs
 none_less [] [] k left right e = cc
-none_less [] (b ∷ rs) k left right e = subst (λ x. NoneLess text_cmp x [] × NoneLess text_cmp x (b ∷ rs)) (same_Some b k e) (λ l inside less. inside, none_less-head nat_list_cmp_total b rs right)
-none_less (a ∷ ls) [] k left right e = subst (λ x. NoneLess text_cmp x (a ∷ ls) × NoneLess text_cmp x []) (same_Some a k e) (none_less-head nat_list_cmp_total a ls left, λ l inside less. inside)
+none_less [] (b ∷ rs) k left right e = subst (λ x. NoneLess text_cmp x [] × NoneLess text_cmp x (b ∷ rs)) (same_Some b k e)
+    (λ l inside less. inside, none_less-head nat_list_cmp_total b rs right)
+none_less (a ∷ ls) [] k left right e = subst (λ x. NoneLess text_cmp x (a ∷ ls) × NoneLess text_cmp x []) (same_Some a k e)
+    (none_less-head nat_list_cmp_total a ls left, λ l inside less. inside)
 none_less (a ∷ ls) (b ∷ rs) k left right e = at (text_cmp b a) refl
   where
     below : (x y : List ℕ) (zs : List (List ℕ)) → text_cmp x y ≡ Less → IsStrictlySortedBy text_cmp (y ∷ zs) → NoneLess text_cmp x (y ∷ zs)
@@ -224,10 +253,12 @@ none_less (a ∷ ls) (b ∷ rs) k left right e = at (text_cmp b a) refl
         subst (λ x. NoneLess text_cmp x (a ∷ ls) × NoneLess text_cmp x (b ∷ rs)) (same_Some b k told) (below b a ls is left, its)
     at Equal is =
         let told : Some a ≡ Some k = rw is at e in
-        subst (λ x. NoneLess text_cmp x (a ∷ ls) × NoneLess text_cmp x (b ∷ rs)) (same_Some a k told) (mine, subst (λ x. NoneLess text_cmp x (b ∷ rs)) (exact_bytes b a is) its)
+        subst (λ x. NoneLess text_cmp x (a ∷ ls) × NoneLess text_cmp x (b ∷ rs)) (same_Some a k told)
+        (mine, subst (λ x. NoneLess text_cmp x (b ∷ rs)) (exact_bytes b a is) its)
     at Greater is =
         let told : Some a ≡ Some k = rw is at e in
-        subst (λ x. NoneLess text_cmp x (a ∷ ls) × NoneLess text_cmp x (b ∷ rs)) (same_Some a k told) (mine, below a b rs (greater_turned nat_list_cmp_total b a is) right)
+        subst (λ x. NoneLess text_cmp x (a ∷ ls) × NoneLess text_cmp x (b ∷ rs)) (same_Some a k told)
+        (mine, below a b rs (greater_turned nat_list_cmp_total b a is) right)
 
 -- at the end none is left
 pub none_left : (ls rs : List (List ℕ)) → lesser_name (first_of ls) (first_of rs) ≡ None → ((k : List ℕ) → Stands k ls → ⊥) × ((k : List ℕ) → Stands k rs → ⊥)
@@ -255,7 +286,8 @@ past_name k (l ∷ ls) rise none = at (text_cmp k l) refl
   where
     at : (o : Ordering) → text_cmp k l ≡ o → IsPast text_cmp k (l ∷ ls) (names_past k (l ∷ ls))
     at Less is = subst (IsPast text_cmp k (l ∷ ls)) (sym (past_later k l ls is)) (past_below k rise (below_head nat_list_cmp_total k l ls is rise))
-    at Equal is = subst (λ x. IsPast text_cmp x (l ∷ ls) (names_past x (l ∷ ls))) (sym (exact_bytes k l is)) (subst (IsPast text_cmp l (l ∷ ls)) (sym (past_first l ls)) (past_head rise))
+    at Equal is = subst (λ x. IsPast text_cmp x (l ∷ ls) (names_past x (l ∷ ls))) (sym (exact_bytes k l is))
+        (subst (IsPast text_cmp l (l ∷ ls)) (sym (past_first l ls)) (past_head rise))
     at Greater is = absurd (none l (inl refl) (greater_turned nat_list_cmp_total k l is))
 
 no_more : (k : List ℕ) (ls : List (List ℕ)) → length (names_past k ls) ≤ length ls
@@ -268,10 +300,12 @@ no_more k (l ∷ ls) = at (bytes_eq l k)
 
 one_fewer : (ks : List (List ℕ)) (k : List ℕ) → first_of ks ≡ Some k → length (names_past k ks) < length ks
 one_fewer [] k e = cc
-one_fewer (l ∷ ks) k e = subst (λ x. length (names_past x (l ∷ ks)) < length (l ∷ ks)) (same_Some l k e) (subst (λ xs. length xs < length (l ∷ ks)) (sym (past_first l ks)) (omega arith))
+one_fewer (l ∷ ks) k e = subst (λ x. length (names_past x (l ∷ ks)) < length (l ∷ ks)) (same_Some l k e)
+    (subst (λ xs. length xs < length (l ∷ ks)) (sym (past_first l ks)) (omega arith))
 
 -- fewer names are left after the next one
-pub fewer : (ls rs : List (List ℕ)) (k : List ℕ) → lesser_name (first_of ls) (first_of rs) ≡ Some k → (ls' rs' : List (List ℕ)) → ls' ≡ names_past k ls → rs' ≡ names_past k rs → length ls' + length rs' < length ls + length rs
+pub fewer : (ls rs : List (List ℕ)) (k : List ℕ) → lesser_name (first_of ls) (first_of rs) ≡ Some k → (ls' rs' : List (List ℕ)) → ls' ≡ names_past k ls
+    → rs' ≡ names_past k rs → length ls' + length rs' < length ls + length rs
 fewer ls rs k next ls' rs' left right =
     subst (λ xs. length xs + length rs' < length ls + length rs) (sym left)
     (subst (λ xs. length (names_past k ls) + length xs < length ls + length rs) (sym right) (at (one_of (first_of ls) (first_of rs) k next)))
@@ -302,17 +336,20 @@ rise_in : (d : Data) (ms : Members) → IsTree d → Some ms ≡ as_object d →
 rise_in d ms tree e = names_rise ms (subst IsTree (is_object d ms e) tree)
 
 -- nothing was found of two objects
-pub both_left : (d e : Data) (ms ns : Members) → IsTree d → IsTree e → Some ms ≡ as_object d → Some ns ≡ as_object e → (ls rs : List (List ℕ)) → ls ≡ names ms → rs ≡ names ns
+pub both_left : (d e : Data) (ms ns : Members) → IsTree d → IsTree e → Some ms ≡ as_object d → Some ns ≡ as_object e → (ls rs : List (List ℕ))
+    → ls ≡ names ms → rs ≡ names ns
     → (m n : MemberMap) → IsMapOf d m → IsMapOf e n → IsWalked text_cmp m n [] ls rs
 both_left d e ms ns mine its left right ls rs lefts rights m n of_one of_other =
     subst (λ xs. IsWalked text_cmp m n [] xs rs) (sym lefts)
     (subst (IsWalked text_cmp m n [] (names ms)) (sym rights)
-    (all_left text_cmp m n (names ms) (names ns) (rise_in d ms mine left) (rise_in e ns its right) (only_among m d ms left of_one) (only_among n e ns right of_other)))
+    (all_left text_cmp m n (names ms) (names ns) (rise_in d ms mine left) (rise_in e ns its right) (only_among m d ms left of_one)
+    (only_among n e ns right of_other)))
 
 -- ---- the members that are left in a walk over an object stand in it, and what is found there decides what the object means
 
 -- members after the first one stand in the object as well
-later_members : (k : List ℕ) (d : Data) (ms xs : Members) → AllByRecursion (λ j. text_cmp k j ≡ Less) (names xs) → AreMembersOf (object ms) xs → AreMembersOf (object (member k d ms)) xs
+later_members : (k : List ℕ) (d : Data) (ms xs : Members) → AllByRecursion (λ j. text_cmp k j ≡ Less) (names xs) → AreMembersOf (object ms) xs
+    → AreMembersOf (object (member k d ms)) xs
 later_members k d ms no_members low h = tt
 later_members k d ms (member l e xs) low h = (get_member-later l k d e ms low.0 h.0, later_members k d ms xs low.1 h.1)
 
@@ -326,17 +363,21 @@ all_members d ms tree e = subst (λ x. AreMembersOf x ms) (sym (is_object d ms e
 
 -- ---- the members of two objects are walked in step, and the names at which a test of the pairs says no are found
 
-module _ (answers : MemberPair → Bool → Type 0) (d e : Data) (m n : MemberMap) (decided : DecideNames answers d e m n) (ls rs found : List (List ℕ)) (walked : IsWalked text_cmp m n found ls rs) where
+module _ (answers : MemberPair → Bool → Type 0) (d e : Data) (m n : MemberMap) (decided : DecideNames answers d e m n) (ls rs found : List (List ℕ))
+    (walked : IsWalked text_cmp m n found ls rs) where
   -- at the end all names were found
   pub ended : lesser_name (first_of ls) (first_of rs) ≡ None → AreDiffering text_cmp m n found
   ended end = let none = none_left ls rs end in all_found walked none.0 none.1
 
-  module _ (pair : MemberPair) (next : lesser_name (first_of ls) (first_of rs) ≡ Some pair.name.now) (is : IsPairOf d e pair) (ls' rs' : List (List ℕ)) (left : ls' ≡ names_past pair.name.now ls) (right : rs' ≡ names_past pair.name.now rs) where
+  module _ (pair : MemberPair) (next : lesser_name (first_of ls) (first_of rs) ≡ Some pair.name.now) (is : IsPairOf d e pair) (ls' rs' : List (List ℕ))
+      (left : ls' ≡ names_past pair.name.now ls) (right : rs' ≡ names_past pair.name.now rs) where
     past_left : IsPast text_cmp pair.name.now ls ls'
-    past_left = subst (IsPast text_cmp pair.name.now ls) (sym left) (past_name pair.name.now ls walked.left (none_less ls rs pair.name.now walked.left walked.right next).0)
+    past_left = subst (IsPast text_cmp pair.name.now ls) (sym left)
+        (past_name pair.name.now ls walked.left (none_less ls rs pair.name.now walked.left walked.right next).0)
 
     past_right : IsPast text_cmp pair.name.now rs rs'
-    past_right = subst (IsPast text_cmp pair.name.now rs) (sym right) (past_name pair.name.now rs walked.right (none_less ls rs pair.name.now walked.left walked.right next).1)
+    past_right = subst (IsPast text_cmp pair.name.now rs) (sym right)
+        (past_name pair.name.now rs walked.right (none_less ls rs pair.name.now walked.left walked.right next).1)
 
     -- a name at which the answer is yes is passed by
     pub passed : answers pair true → IsWalked text_cmp m n found ls' rs'
@@ -344,13 +385,17 @@ module _ (answers : MemberPair → Bool → Type 0) (d e : Data) (m n : MemberMa
 
     -- a name at which the answer is no is found
     pub differs : answers pair false → IsWalked text_cmp m n (found ++ (pair.name.now ∷ [])) ls' rs'
-    differs told = pass_differing walked past_left past_right (λ same. absurd (true≢false (sym ((decided pair false is told).1 same)))) (next_stands ls rs pair.name.now next)
+    differs told = pass_differing walked past_left past_right (λ same. absurd (true≢false (sym ((decided pair false is told).1 same))))
+        (next_stands ls rs pair.name.now next)
 
 -- one step of a walk over two objects, and what it found so far
-pub goes_from : (answers : MemberPair → Bool → Type 0) (m n : MemberMap) (d e : Data) → IsMapOf d m → IsMapOf e n → DecideNames answers d e m n → (old new : PairsLeft) (next o : Option (List ℕ)) → view old.one.now ≡ d
-    → view old.other.now ≡ e → GoesFrom answers (view old.one.now) (view old.other.now) old new next → next ≡ o → (found : List (List ℕ)) → AreFound m n found old → GoesOn m n found new o
+pub goes_from : (answers : MemberPair → Bool → Type 0) (m n : MemberMap) (d e : Data) → IsMapOf d m → IsMapOf e n → DecideNames answers d e m n
+    → (old new : PairsLeft) (next o : Option (List ℕ)) → view old.one.now ≡ d
+    → view old.other.now ≡ e → GoesFrom answers (view old.one.now) (view old.other.now) old new next → next ≡ o → (found : List (List ℕ))
+    → AreFound m n found old → GoesOn m n found new o
 goes_from answers m n d e of_one of_other decided old new next o one other from is found before =
-    let told : GoesFrom answers d e old new o = subst (GoesFrom answers d e old new) is (subst (λ x. GoesFrom answers x e old new next) one (subst (λ x. GoesFrom answers (view old.one.now) x old new next) other from)) in
+    let told : GoesFrom answers d e old new o = subst (GoesFrom answers d e old new) is
+    (subst (λ x. GoesFrom answers x e old new next) one (subst (λ x. GoesFrom answers (view old.one.now) x old new next) other from)) in
     told m n found of_one of_other decided before
 
 -- ---- what two objects of a class mean
@@ -367,16 +412,21 @@ module _ (a b : Judged) (d e : Data) (c : Class) where
   abbrev pub DecideMembers : (MemberPair → Bool → Type 0) → Type 0
   DecideMembers answers =
       (pair : MemberPair) (answer : Bool) → answers pair answer
-      → Decides answer (member_found a.prefer (view a.tree) c pair.name.now (option_map (λ v. view v.now) pair.one)) (member_found b.prefer (view b.tree) c pair.name.now (option_map (λ v. view v.now) pair.other))
+      → Decides answer (member_found a.prefer (view a.tree) c pair.name.now (option_map (λ v. view v.now) pair.one))
+      (member_found b.prefer (view b.tree) c pair.name.now (option_map (λ v. view v.now) pair.other))
 
   pub decide_names : (answers : MemberPair → Bool → Type 0) → DecideMembers answers → DecideNames answers d e ones others
   decide_names answers decided pair answer is h =
-      decides_as refl (ap (member_found a.prefer (view a.tree) c pair.name.now) is.one) (ap (member_found b.prefer (view b.tree) c pair.name.now) is.other) (decided pair answer h)
+      decides_as refl (ap (member_found a.prefer (view a.tree) c pair.name.now) is.one) (ap (member_found b.prefer (view b.tree) c pair.name.now) is.other)
+      (decided pair answer h)
 
   -- one step of the walk over the two
-  pub goes_on : (answers : MemberPair → Bool → Type 0) → DecideMembers answers → (old new : PairsLeft) (next o : Option (List ℕ)) → view old.one.now ≡ d → view old.other.now ≡ e
-      → GoesFrom answers (view old.one.now) (view old.other.now) old new next → next ≡ o → (found : List (List ℕ)) → AreFound ones others found old → GoesOn ones others found new o
-  goes_on answers decided = goes_from answers ones others d e (absent_member a.prefer (view a.tree) d c) (absent_member b.prefer (view b.tree) e c) (decide_names answers decided)
+  pub goes_on : (answers : MemberPair → Bool → Type 0) → DecideMembers answers → (old new : PairsLeft) (next o : Option (List ℕ)) → view old.one.now ≡ d
+      → view old.other.now ≡ e
+      → GoesFrom answers (view old.one.now) (view old.other.now) old new next → next ≡ o → (found : List (List ℕ)) → AreFound ones others found old
+      → GoesOn ones others found new o
+  goes_on answers decided = goes_from answers ones others d e (absent_member a.prefer (view a.tree) d c) (absent_member b.prefer (view b.tree) e c)
+      (decide_names answers decided)
 
 -- the members that are left stand in the two objects
 pub stand_on : (d e x y : Data) (left : PairsLeft) → x ≡ d → y ≡ e → StandInPair x y left → StandInPair d e left

@@ -1,5 +1,6 @@
 -- The list of all differences of two small meanings, and lists that are not.
-use Rattle.erd_compare.proofs.Common.{[], List, ◌∷◌, Some, None, Option, refl, inl, inr, ObjectRecord, Meaning, Key, Difference, OnlyLeft, OnlyRight, Part, part}
+use Rattle.erd_compare.proofs.Common.{[], List, ◌∷◌, Some, None, Option, refl, inl, inr, ObjectRecord, Meaning, Key, Difference, OnlyLeft, OnlyRight, Part}
+use Rattle.erd_compare.proofs.Common.{part}
 use Rattle.std.specs.List.Sorted.{IsStrictlySortedBy}
 use Rattle.erd_compare.specs.Differences.{AgreeBut, AreDifferences, Stands, record_at}
 use Rattle.erd_tables.specs.declared.class.Class.TheVariants as class

@@ -1,5 +1,13 @@
 -- The first difference of the small ballot and of the ballot with its order exchanged is that order: all before it is the same.
-use Rattle.erd_compare.proofs.Common.{◌≡◌, ℕ, Bool, true, false, List, [], ◌∷◌, ◌++◌, slice_get, Some, None, codes, Option, option_map, option_and_then, is_eq, Less, unwrap_or, sym, refl, ap, ◌∙◌, true≢false, lit<, Data, null, Class, Family, family, role, tree_of, small_ballot_with, header_node, contest_node, small_ballot, entries_at, has_keys, key_cmp, first_node, a_header, MemberValue, a_plain, NameParts, contests, meaning, plain_member, selection_map, member_of_class, object_record, records_of, election_records, name_of, serde_json_on_literals, is_eq-slice_cmp, local_key, same_but_one, same_object, AgreeAt, AreAmong, value_with_key, ObjectsAgree, same_at_key, same_at_key_with, HaveKeys, keys_of_family, nothing_at, same_family, selection_with_name, SelectionsAgreeButOne, same_at_name, names_of_selections, same_selections, same_sole_election, absent_member, a_content, a_selection_map, Key, part_cmp, record_at, Differ, IsFirstDifference, Member, Part}
+use Rattle.erd_compare.proofs.Common.{◌≡◌, ℕ, Bool, true, false, List, [], ◌∷◌, ◌++◌, slice_get, Some, None, codes, Option, option_map, option_and_then, is_eq}
+use Rattle.erd_compare.proofs.Common.{Less, unwrap_or, sym, refl, ap, ◌∙◌, true≢false, lit<, Data, null, Class, Family, family, role, tree_of}
+use Rattle.erd_compare.proofs.Common.{small_ballot_with, header_node, contest_node, small_ballot, entries_at, has_keys, key_cmp, first_node, a_header}
+use Rattle.erd_compare.proofs.Common.{MemberValue, a_plain, NameParts, contests, meaning, plain_member, selection_map, member_of_class, object_record}
+use Rattle.erd_compare.proofs.Common.{records_of, election_records, name_of, serde_json_on_literals, is_eq-slice_cmp, local_key, same_but_one, same_object}
+use Rattle.erd_compare.proofs.Common.{AgreeAt, AreAmong, value_with_key, ObjectsAgree, same_at_key, same_at_key_with, HaveKeys, keys_of_family, nothing_at}
+use Rattle.erd_compare.proofs.Common.{same_family, selection_with_name, SelectionsAgreeButOne, same_at_name, names_of_selections, same_selections}
+use Rattle.erd_compare.proofs.Common.{same_sole_election, absent_member, a_content, a_selection_map, Key, part_cmp, record_at, Differ, IsFirstDifference}
+use Rattle.erd_compare.proofs.Common.{Member, Part}
 use Rattle.erd_compare.proofs.examples.FirstDifferenceExamples.{election_in, not_in}
 use Rattle.erd_tables.specs.declared.class.Class.TheVariants as class
 use Rattle.erd_compare.specs.declared.difference.Part.TheVariants as part
@@ -26,7 +34,8 @@ unfolding serde_json_on_literals
 orders = (refl, refl)
 
 -- every member before its order is the same
-first_member : Differ (record_at (meaning None left) part.Style (Some (local_key (codes "S1")))) (record_at (meaning None right) part.Style (Some (local_key (codes "S1")))) (Member (codes "OrderedContent"))
+first_member : Differ (record_at (meaning None left) part.Style (Some (local_key (codes "S1"))))
+    (record_at (meaning None right) part.Style (Some (local_key (codes "S1")))) (Member (codes "OrderedContent"))
 unfolding serde_json_on_literals
 first_member =
     let one = value_with_key None left family.Style (local_key (codes "S1")) in
@@ -34,7 +43,8 @@ first_member =
     record {
       same_class = refl;
       differ = λ e. true≢false (sym orders.0 ∙ ap begins_with_header e ∙ orders.1);
-      least = λ name less. same_but_one (style_member left) (style_member right) one other (codes "OrderedContent") (absent_member None left one class.BallotStyle) (absent_member None right other class.BallotStyle) refl
+      least = λ name less. same_but_one (style_member left) (style_member right) one other (codes "OrderedContent")
+          (absent_member None left one class.BallotStyle) (absent_member None right other class.BallotStyle) refl
           name (sym (is_eq-slice_cmp name (codes "OrderedContent")) ∙ ap is_eq less);
     }
 
@@ -91,14 +101,16 @@ first_selections : selection_map None left (selections_in left 0) ≡ selection_
 unfolding serde_json_on_literals
 first_selections =
     let names = name_at 0 0 ∷ name_at 0 1 ∷ name_at 0 2 ∷ [] in
-    same_selections None left right (selections_in left 0) (selections_in right 0) names names (names_of_selections None left (selections_in left 0) names refl) (names_of_selections None right (selections_in right 0) names refl)
+    same_selections None left right (selections_in left 0) (selections_in right 0) names names (names_of_selections None left (selections_in left 0) names refl)
+    (names_of_selections None right (selections_in right 0) names refl)
     ((0, lit< tt, refl), ((1, lit< tt, refl), ((2, lit< tt, refl), tt))) (first_three.0, (first_three.1, (first_three.2, tt)))
 
 second_selections : selection_map None left (selections_in left 1) ≡ selection_map None right (selections_in right 1)
 unfolding serde_json_on_literals
 second_selections =
     let names = name_at 1 0 ∷ name_at 1 1 ∷ [] in
-    same_selections None left right (selections_in left 1) (selections_in right 1) names names (names_of_selections None left (selections_in left 1) names refl) (names_of_selections None right (selections_in right 1) names refl)
+    same_selections None left right (selections_in left 1) (selections_in right 1) names names (names_of_selections None left (selections_in left 1) names refl)
+    (names_of_selections None right (selections_in right 1) names refl)
     ((0, lit< tt, refl), ((1, lit< tt, refl), tt)) (yes_and_no.0, (yes_and_no.1, tt))
 
 -- ---- all that comes before the style
@@ -124,10 +136,12 @@ unfolding serde_json_on_literals
 keys_right family.Selection keyed = absurd (cc keyed)
 keys_right f keyed = keys_of_family None right f (keys_of f) refl
 
-by_keys : (f : Family) → has_keys f ≡ true → AreAmong (keys_of f) (keys_of f) → AgreeAt (records_of None left f) (records_of None right f) (keys_of f) → (k : Key) → records_of None left f k ≡ records_of None right f k
+by_keys : (f : Family) → has_keys f ≡ true → AreAmong (keys_of f) (keys_of f) → AgreeAt (records_of None left f) (records_of None right f) (keys_of f)
+    → (k : Key) → records_of None left f k ≡ records_of None right f k
 by_keys f keyed among agree = same_family None left right f (keys_of f) (keys_of f) (keys_left f keyed) (keys_right f keyed) among agree
 
-same : (f : Family) (key : List ℕ) (c : Class) → has_keys f ≡ true → ObjectsAgree None left right f (local_key key) c → records_of None left f (local_key key) ≡ records_of None right f (local_key key)
+same : (f : Family) (key : List ℕ) (c : Class) → has_keys f ≡ true → ObjectsAgree None left right f (local_key key) c → records_of None left f (local_key key)
+    ≡ records_of None right f (local_key key)
 same f key c keyed agree = same_at_key None left right f (local_key key) c keyed agree
 
 abbrev is_style : Family → Bool
@@ -138,21 +152,35 @@ is_style f = false
 same_objects : (f : Family) (k : Key) → is_style f ≡ false → records_of None left f k ≡ records_of None right f k
 unfolding serde_json_on_literals
 same_objects family.Unit k other =
-    by_keys family.Unit refl ((0, lit< tt, refl), ((1, lit< tt, refl), tt))
-    (same family.Unit (codes "U2") class.ReportingUnit refl (refl, refl, refl, refl, refl, refl), (same family.Unit (codes "U1") class.ReportingUnit refl (refl, refl, refl, refl, refl, refl), tt)) k
-same_objects family.Party k other = by_keys family.Party refl ((0, lit< tt, refl), tt) (same family.Party (codes "P1") class.Party refl (refl, refl, refl, refl, refl, refl), tt) k
-same_objects family.Person k other = by_keys family.Person refl ((0, lit< tt, refl), tt) (same family.Person (codes "Q1") class.Person refl (refl, refl, refl, refl, refl, refl), tt) k
-same_objects family.Office k other = by_keys family.Office refl ((0, lit< tt, refl), tt) (same family.Office (codes "O1") class.Office refl (refl, refl, refl, refl, refl, refl), tt) k
-same_objects family.Header k other = by_keys family.Header refl ((0, lit< tt, refl), tt) (same family.Header (codes "H1") class.Header refl (refl, refl, refl, refl, refl, refl), tt) k
+    by_keys family.Unit refl ((0, lit< tt, refl), ((1, lit< tt, refl), tt)) (
+      same family.Unit (codes "U2") class.ReportingUnit refl (refl, refl, refl, refl, refl, refl),
+      (same family.Unit (codes "U1") class.ReportingUnit refl (refl, refl, refl, refl, refl, refl), tt),
+    ) k
+same_objects family.Party k other = by_keys family.Party refl ((0, lit< tt, refl), tt)
+    (same family.Party (codes "P1") class.Party refl (refl, refl, refl, refl, refl, refl), tt) k
+same_objects family.Person k other = by_keys family.Person refl ((0, lit< tt, refl), tt)
+    (same family.Person (codes "Q1") class.Person refl (refl, refl, refl, refl, refl, refl), tt) k
+same_objects family.Office k other = by_keys family.Office refl ((0, lit< tt, refl), tt)
+    (same family.Office (codes "O1") class.Office refl (refl, refl, refl, refl, refl, refl), tt) k
+same_objects family.Header k other = by_keys family.Header refl ((0, lit< tt, refl), tt)
+    (same family.Header (codes "H1") class.Header refl (refl, refl, refl, refl, refl, refl), tt) k
 same_objects family.Candidate k other =
     by_keys family.Candidate refl ((0, lit< tt, refl), ((1, lit< tt, refl), ((2, lit< tt, refl), tt))) (
       same family.Candidate (codes "K3") class.Candidate refl (refl, refl, refl, refl, refl, refl),
-      (same family.Candidate (codes "K1") class.Candidate refl (refl, refl, refl, refl, refl, refl), (same family.Candidate (codes "K2") class.Candidate refl (refl, refl, refl, refl, refl, refl), tt)),
+      (
+        same family.Candidate (codes "K1") class.Candidate refl (refl, refl, refl, refl, refl, refl),
+        (same family.Candidate (codes "K2") class.Candidate refl (refl, refl, refl, refl, refl, refl), tt),
+      ),
     ) k
 same_objects family.Contest k other =
     by_keys family.Contest refl ((0, lit< tt, refl), ((1, lit< tt, refl), tt)) (
-      same_at_key_with None left right family.Contest (local_key (codes "C1")) class.CandidateContest (codes "ContestSelection") refl (refl, refl, refl, refl, refl, refl) (ap (λ m. Some (a_selection_map m)) first_selections),
-      (same_at_key_with None left right family.Contest (local_key (codes "C2")) class.BallotMeasureContest (codes "ContestSelection") refl (refl, refl, refl, refl, refl, refl) (ap (λ m. Some (a_selection_map m)) second_selections), tt),
+      same_at_key_with None left right family.Contest (local_key (codes "C1")) class.CandidateContest (codes "ContestSelection") refl
+          (refl, refl, refl, refl, refl, refl) (ap (λ m. Some (a_selection_map m)) first_selections),
+      (
+        same_at_key_with None left right family.Contest (local_key (codes "C2")) class.BallotMeasureContest (codes "ContestSelection") refl
+            (refl, refl, refl, refl, refl, refl) (ap (λ m. Some (a_selection_map m)) second_selections),
+        tt,
+      ),
     ) k
 same_objects family.Style k other = absurd (cc other)
 same_objects family.Selection k other = refl
@@ -160,9 +188,11 @@ same_objects family.Selection k other = refl
 styles_below : (k : Key) → key_cmp k (local_key (codes "S1")) ≡ Less → records_of None left family.Style k ≡ records_of None right family.Style k
 styles_below k less =
     let none = not_in (local_key (codes "S1")) k (local_key (codes "S1")) less refl in
-    nothing_at None left family.Style (keys_of family.Style) k (keys_left family.Style refl) none ∙ sym (nothing_at None right family.Style (keys_of family.Style) k (keys_right family.Style refl) none)
+    nothing_at None left family.Style (keys_of family.Style) k (keys_left family.Style refl) none
+    ∙ sym (nothing_at None right family.Style (keys_of family.Style) k (keys_right family.Style refl) none)
 
-before_style : (p : Part) (k : Option Key) → part_cmp p k part.Style (Some (local_key (codes "S1"))) ≡ Less → record_at (meaning None left) p k ≡ record_at (meaning None right) p k
+before_style : (p : Part) (k : Option Key) → part_cmp p k part.Style (Some (local_key (codes "S1"))) ≡ Less → record_at (meaning None left) p k
+    ≡ record_at (meaning None right) p k
 before_style part.Report None less = same_report
 before_style part.Report (Some k) less = refl
 before_style part.Election k less = same_election k
@@ -176,5 +206,6 @@ before_style part.Header (Some k) less = same_objects family.Header k refl
 before_style part.Candidate (Some k) less = same_objects family.Candidate k refl
 before_style part.Contest (Some k) less = same_objects family.Contest k refl
 
-first_is_order : IsFirstDifference (meaning None left) (meaning None right) (record { part = part.Style; key = Some (local_key (codes "S1")); how = Member (codes "OrderedContent") })
+first_is_order : IsFirstDifference (meaning None left) (meaning None right)
+    (record { part = part.Style; key = Some (local_key (codes "S1")); how = Member (codes "OrderedContent") })
 first_is_order = record { differ = first_member; least = before_style }

@@ -1,5 +1,11 @@
 -- The first difference of reports of elections: a contest in another election, and an election that has lost its key.
-use Rattle.erd_compare.proofs.Common.{[], ◌≡◌, ℕ, Bool, true, false, List, ◌∷◌, ◌++◌, slice_get, Some, None, codes, Option, find, option_and_then, bytes_eq, is_eq, unwrap_or, sym, refl, ap, ◌∙◌, subst, true≢false, option_cmp, Data, null, Family, family, role, tree_of, election, one_unit, report_of_two, key_cmp, key_of, ObjectRecord, Placed, report_of, elections, meaning, member_of_class, object_record, record_in_election, records_of, serde_json_on_literals, one_unit_report, status, unit, identifier, other_election, party_contest, local_key, same_object, is_key_in, value_with_key, same_at_key, HaveKeys, keys_of_family, nothing_at, election_has_key, no_election_id, equal_keys, Key, part_cmp, record_at, DifferFirstAt, IsFirstDifference, Member, OnlyLeft, OnlyRight, Part}
+use Rattle.erd_compare.proofs.Common.{[], ◌≡◌, ℕ, Bool, true, false, List, ◌∷◌, ◌++◌, slice_get, Some, None, codes, Option, find, option_and_then, bytes_eq}
+use Rattle.erd_compare.proofs.Common.{is_eq, unwrap_or, sym, refl, ap, ◌∙◌, subst, true≢false, option_cmp, Data, null, Family, family, role, tree_of, election}
+use Rattle.erd_compare.proofs.Common.{one_unit, report_of_two, key_cmp, key_of, ObjectRecord, Placed, report_of, elections, meaning, member_of_class}
+use Rattle.erd_compare.proofs.Common.{object_record, record_in_election, records_of, serde_json_on_literals, one_unit_report, status, unit, identifier}
+use Rattle.erd_compare.proofs.Common.{other_election, party_contest, local_key, same_object, is_key_in, value_with_key, same_at_key, HaveKeys, keys_of_family}
+use Rattle.erd_compare.proofs.Common.{nothing_at, election_has_key, no_election_id, equal_keys, Key, part_cmp, record_at, DifferFirstAt, IsFirstDifference}
+use Rattle.erd_compare.proofs.Common.{Member, OnlyLeft, OnlyRight, Part}
 use Rattle.std.specs.Prelude.{⊤}
 use Rattle.std.specs.declared.cmp.Ordering.TheVariants.{Less}
 use Rattle.erd_compare.proofs.examples.FirstDifferenceExamples.{before_elections, not_in, same_units}
@@ -22,7 +28,8 @@ abbrev left : Data
 left = two_elections (party_contest (codes "c2") (codes "C2")) (party_contest (codes "c3") (codes "C3") ++ codes "," ++ party_contest (codes "c1") (codes "C1"))
 
 abbrev moved : Data
-moved = two_elections [] (party_contest (codes "c3") (codes "C3") ++ codes "," ++ party_contest (codes "c1") (codes "C1") ++ codes "," ++ party_contest (codes "c2") (codes "C2"))
+moved = two_elections [] (party_contest (codes "c3") (codes "C3") ++ codes "," ++ party_contest (codes "c1") (codes "C1") ++ codes ","
+    ++ party_contest (codes "c2") (codes "C2"))
 
 -- ---- what is the same
 
@@ -30,7 +37,8 @@ moved = two_elections [] (party_contest (codes "c3") (codes "C3") ++ codes "," +
 abbrev AreSameElections : Data → Data → List Placed → List Placed → Type 0
 AreSameElections t u [] [] = ⊤
 AreSameElections t u (d ∷ ds) (e ∷ es) =
-    (key_of None d.value ≡ key_of None e.value) × (object_record None t role.Election d.value ≡ object_record None u role.Election e.value) × AreSameElections t u ds es
+    (key_of None d.value ≡ key_of None e.value) × (object_record None t role.Election d.value ≡ object_record None u role.Election e.value)
+    × AreSameElections t u ds es
 AreSameElections t u ds es = ⊥
 
 abbrev found : Data → Option Key → List Placed → Option ObjectRecord
@@ -38,9 +46,11 @@ found t k es = option_and_then (λ (e : Placed). object_record None t role.Elect
 
 same_elections : (t u : Data) (ds es : List Placed) → AreSameElections t u ds es → (k : Option Key) → found t k ds ≡ found u k es
 same_elections t u [] [] h k = refl
-same_elections t u (d ∷ ds) (e ∷ es) h k = at (election_has_key None k d) refl (ap (λ l. is_eq (option_cmp key_cmp l k)) (sym h.0)) (same_elections t u ds es h.2 k)
+same_elections t u (d ∷ ds) (e ∷ es) h k = at (election_has_key None k d) refl (ap (λ l. is_eq (option_cmp key_cmp l k)) (sym h.0))
+    (same_elections t u ds es h.2 k)
   where
-    at : (b : Bool) → election_has_key None k d ≡ b → election_has_key None k e ≡ election_has_key None k d → found t k ds ≡ found u k es → found t k (d ∷ ds) ≡ found u k (e ∷ es)
+    at : (b : Bool) → election_has_key None k d ≡ b → election_has_key None k e ≡ election_has_key None k d → found t k ds ≡ found u k es
+        → found t k (d ∷ ds) ≡ found u k (e ∷ es)
     at true is also rest = let other : election_has_key None k e ≡ true = also ∙ is in rw (is, other) h.1
     at false is also rest = let other : election_has_key None k e ≡ false = also ∙ is in rw (is, other) rest
 same_elections t u [] (e ∷ es) h k = absurd h
@@ -68,7 +78,8 @@ its_record t = record { class = class.PartyContest; members = member_of_class No
 
 same_contest : Some (its_record left) ≡ Some (its_record moved)
 unfolding serde_json_on_literals
-same_contest = same_object None left moved (value_with_key None left family.Contest key) (value_with_key None moved family.Contest key) (role.OfFamily family.Contest) class.PartyContest refl refl refl
+same_contest = same_object None left moved (value_with_key None left family.Contest key) (value_with_key None moved family.Contest key)
+    (role.OfFamily family.Contest) class.PartyContest refl refl refl
 
 abbrev is_later : Option Key → Bool
 is_later None = false
@@ -81,14 +92,17 @@ its_members : (a b : ObjectRecord) → Some a ≡ Some b → a.members ≡ b.mem
 its_members a b e = let same : a ≡ b = cc in ap (λ (r : ObjectRecord). r.members) same
 
 -- its class and all its members are the same; only its election is another
-differs_in_election : DifferFirstAt (record_in_election (Some (local_key (codes "E2"))) (its_record left)) (record_in_election (Some (local_key (codes "E1"))) (its_record moved)) (codes "ElectionId")
+differs_in_election : DifferFirstAt (record_in_election (Some (local_key (codes "E2"))) (its_record left))
+    (record_in_election (Some (local_key (codes "E1"))) (its_record moved)) (codes "ElectionId")
 unfolding IsStrictlySortedBy
 differs_in_election =
     let mine = its_record left in
     let its = its_record moved in
-    let none : AreNames false mine.members its.members [] = record { rise = tt; differ = tt; first = its_members mine its same_contest; each = λ yes. absurd (true≢false (sym yes)) } in
+    let none : AreNames false mine.members its.members [] =
+    record { rise = tt; differ = tt; first = its_members mine its same_contest; each = λ yes. absurd (true≢false (sym yes)) } in
     let told =
-    names_of_two mine.members its.members (no_election_id None left (value_with_key None left family.Contest key) class.PartyContest) (no_election_id None moved (value_with_key None moved family.Contest key) class.PartyContest) false []
+    names_of_two mine.members its.members (no_election_id None left (value_with_key None left family.Contest key) class.PartyContest)
+    (no_election_id None moved (value_with_key None moved family.Contest key) class.PartyContest) false []
     none (Some (local_key (codes "E2"))) (Some (local_key (codes "E1"))) apart in
     record { same_class = refl; differ = told.first.differ; least = told.first.least }
 
@@ -118,12 +132,14 @@ contests_below k less = at (is_eq (key_cmp (local_key (codes "C1")) k)) refl
     third = none (local_key (codes "C3")) (is_eq (key_cmp (local_key (codes "C3")) k)) refl (not_in (local_key (codes "C3")) k key less refl)
 
     at : (b : Bool) → is_eq (key_cmp (local_key (codes "C1")) k) ≡ b → records_of None left family.Contest k ≡ records_of None moved family.Contest k
-    at true is = subst (λ l. records_of None left family.Contest l ≡ records_of None moved family.Contest l) (equal_keys (local_key (codes "C1")) k is) earlier_contest
+    at true is = subst (λ l. records_of None left family.Contest l ≡ records_of None moved family.Contest l)
+        (equal_keys (local_key (codes "C1")) k is) earlier_contest
     at false is =
         nothing_at None left family.Contest (key ∷ local_key (codes "C3") ∷ local_key (codes "C1") ∷ []) k keys_left (rw (second, third, is) refl)
         ∙ sym (nothing_at None moved family.Contest (local_key (codes "C3") ∷ local_key (codes "C1") ∷ key ∷ []) k keys_moved (rw (third, is, second) refl))
 
-before_contest : (p : Part) (k : Option Key) → part_cmp p k part.Contest (Some key) ≡ Less → record_at (meaning None left) p k ≡ record_at (meaning None moved) p k
+before_contest : (p : Part) (k : Option Key) → part_cmp p k part.Contest (Some key) ≡ Less → record_at (meaning None left) p k
+    ≡ record_at (meaning None moved) p k
 unfolding serde_json_on_literals
 before_contest part.Report None less = same_object None left moved left moved role.Report class.ElectionReport refl refl refl
 before_contest part.Report (Some k) less = refl
@@ -136,7 +152,8 @@ before_contest part.Style k less = absurd (cc less)
 before_contest p None less = refl
 before_contest p (Some k) less = refl
 
-first_is_election : IsFirstDifference (meaning None left) (meaning None moved) (record { part = part.Contest; key = Some key; how = Member (codes "ElectionId") })
+first_is_election : IsFirstDifference (meaning None left) (meaning None moved)
+    (record { part = part.Contest; key = Some key; how = Member (codes "ElectionId") })
 unfolding serde_json_on_literals
 first_is_election = record { differ = differs_in_election; least = before_contest }
 
@@ -154,9 +171,11 @@ unfolding serde_json_on_literals
 keyed_objects family.Unit k = same_units with_key without_key (refl, refl, refl, refl, refl, refl) refl refl k
 keyed_objects f k = refl
 
-before_election : (p : Part) (k : Option Key) → part_cmp p k part.Election None ≡ Less → record_at (meaning None with_key) p k ≡ record_at (meaning None without_key) p k
+before_election : (p : Part) (k : Option Key) → part_cmp p k part.Election None ≡ Less → record_at (meaning None with_key) p k
+    ≡ record_at (meaning None without_key) p k
 unfolding serde_json_on_literals
-before_election = before_elections (meaning None with_key) (meaning None without_key) (same_object None with_key without_key with_key without_key role.Report class.ElectionReport refl refl refl) keyed_objects
+before_election = before_elections (meaning None with_key) (meaning None without_key)
+    (same_object None with_key without_key with_key without_key role.Report class.ElectionReport refl refl refl) keyed_objects
 
 -- no key comes before each key, so the election on the right is told
 first_is_without : IsFirstDifference (meaning None with_key) (meaning None without_key) (record { part = part.Election; key = None; how = OnlyRight })

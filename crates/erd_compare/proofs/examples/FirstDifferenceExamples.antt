@@ -1,5 +1,11 @@
 -- The first difference of whole reports, each of one unit: none, and one for each of some edits.
-use Rattle.erd_compare.proofs.Common.{[], ◌≡◌, ℕ, Bool, true, false, ◌≢◌, List, ◌∷◌, is_some, slice_get, Some, None, codes, Option, option_and_then, bytes_eq, is_eq, is_lt, unwrap_or, sym, refl, ap, ◌∙◌, true≢false, option_cmp, lit<, Data, null, string, class, Family, family, role, tree_of, election, one_unit, key_cmp, key_of, untranslated, a_json, a_label, MemberValue, a_plain, ObjectRecord, Placed, report_of, elections, objects, meaning, member_of_class, records_of, serde_json_on_literals, is_eq-slice_cmp, one_unit_report, status, unit, local_key, same_but_one, same_object, is_key_in, no_record, ObjectsAgree, same_at_key, keys_of_family, same_family, same_sole_election, same_meaning, absent_member, equal_keys, Meaning, Key, part_cmp, record_at, IsDifference, IsFirstDifference, How, Member, OnlyLeft, OnlyRight, Part}
+use Rattle.erd_compare.proofs.Common.{[], ◌≡◌, ℕ, Bool, true, false, ◌≢◌, List, ◌∷◌, is_some, slice_get, Some, None, codes, Option, option_and_then, bytes_eq}
+use Rattle.erd_compare.proofs.Common.{is_eq, is_lt, unwrap_or, sym, refl, ap, ◌∙◌, true≢false, option_cmp, lit<, Data, null, string, class, Family, family}
+use Rattle.erd_compare.proofs.Common.{role, tree_of, election, one_unit, key_cmp, key_of, untranslated, a_json, a_label, MemberValue, a_plain, ObjectRecord}
+use Rattle.erd_compare.proofs.Common.{Placed, report_of, elections, objects, meaning, member_of_class, records_of, serde_json_on_literals, is_eq-slice_cmp}
+use Rattle.erd_compare.proofs.Common.{one_unit_report, status, unit, local_key, same_but_one, same_object, is_key_in, no_record, ObjectsAgree, same_at_key}
+use Rattle.erd_compare.proofs.Common.{keys_of_family, same_family, same_sole_election, same_meaning, absent_member, equal_keys, Meaning, Key, part_cmp}
+use Rattle.erd_compare.proofs.Common.{record_at, IsDifference, IsFirstDifference, How, Member, OnlyLeft, OnlyRight, Part}
 use Rattle.std.specs.declared.cmp.Ordering.TheVariants.{Less}
 use Rattle.erd_meaning.proofs.meanings.WholeMeanings.{have_keys}
 use Rattle.erd_compare.specs.declared.difference.Part.TheVariants as part
@@ -21,14 +27,20 @@ abbrev pub HasOneUnit : Data → Type 0
 HasOneUnit t = have_keys key_cmp (λ (o : Placed). key_of None o.value) (objects family.Unit t) (key ∷ []) ≡ true
 
 -- the units of two such reports mean the same, if they do at the key
-pub same_units : (t u : Data) → ObjectsAgree None t u family.Unit key class.ReportingUnit → HasOneUnit t → HasOneUnit u → (k : Key) → records_of None t family.Unit k ≡ records_of None u family.Unit k
+pub same_units : (t u : Data) → ObjectsAgree None t u family.Unit key class.ReportingUnit → HasOneUnit t → HasOneUnit u → (k : Key)
+    → records_of None t family.Unit k ≡ records_of None u family.Unit k
 same_units t u agree left right =
-    same_family None t u family.Unit (key ∷ []) (key ∷ []) (keys_of_family None t family.Unit (key ∷ []) left) (keys_of_family None u family.Unit (key ∷ []) right) ((0, lit< tt, refl), tt)
+    same_family None t u family.Unit (key ∷ []) (key ∷ []) (keys_of_family None t family.Unit (key ∷ []) left)
+    (keys_of_family None u family.Unit (key ∷ []) right) ((0, lit< tt, refl), tt)
     (same_at_key None t u family.Unit key class.ReportingUnit refl agree, tt)
 
 -- with another `@id`, other orders of members, an envelope and empty arrays
 abbrev respelled : Data
-respelled = tree_of (codes "{\"Election\":[{\"ElectionScopeId\":\"k\",\"Name\":\"Test\",\"EndDate\":\"2026-11-03\",\"StartDate\":\"2026-11-03\",\"Type\":\"general\",\"@type\":\"ElectionResults.Election\",\"Contest\":[]}],\"Issuer\":\"Vendor A\",\"SequenceStart\":1,\"Status\":\"pre-election\",\"Party\":[],\"GpUnit\":[{\"Type\":\"county\",\"ComposingGpUnitIds\":[],\"ExternalIdentifier\":[{\"Value\":\"U1\",\"Type\":\"local-level\",\"@type\":\"ElectionResults.ExternalIdentifier\"}],\"@type\":\"ElectionResults.ReportingUnit\",\"@id\":\"k\"}],\"@type\":\"ElectionResults.ElectionReport\"}")
+respelled = tree_of (codes "{\"Election\":[{\"ElectionScopeId\":\"k\",\"Name\":\"Test\",\"EndDate\":\"2026-11-03\",\"StartDate\":\"2026-11-03\""
+    ++ codes ",\"Type\":\"general\",\"@type\":\"ElectionResults.Election\",\"Contest\":[]}],\"Issuer\":\"Vendor A\",\"SequenceStart\":1"
+    ++ codes ",\"Status\":\"pre-election\",\"Party\":[],\"GpUnit\":[{\"Type\":\"county\",\"ComposingGpUnitIds\":[]"
+    ++ codes ",\"ExternalIdentifier\":[{\"Value\":\"U1\",\"Type\":\"local-level\",\"@type\":\"ElectionResults.ExternalIdentifier\"}]"
+    ++ codes ",\"@type\":\"ElectionResults.ReportingUnit\",\"@id\":\"k\"}],\"@type\":\"ElectionResults.ElectionReport\"}")
 
 respelled_objects : (f : Family) (k : Key) → records_of None left f k ≡ records_of None respelled f k
 unfolding serde_json_on_literals
@@ -46,7 +58,8 @@ no_difference =
 -- ---- another name of the election
 
 abbrev renamed : Data
-renamed = tree_of (one_unit_report status unit (codes "\"@type\":\"ElectionResults.Election\",\"Name\":\"Trial\",\"Type\":\"general\",\"StartDate\":\"2026-11-03\",\"EndDate\":\"2026-11-03\",\"ElectionScopeId\":\"u7\""))
+renamed = tree_of (one_unit_report status unit (codes "\"@type\":\"ElectionResults.Election\",\"Name\":\"Trial\",\"Type\":\"general\""
+    ++ codes ",\"StartDate\":\"2026-11-03\",\"EndDate\":\"2026-11-03\",\"ElectionScopeId\":\"u7\""))
 
 abbrev election_member : Data → List ℕ → Option MemberValue
 election_member t = member_of_class None t (election_in t).value class.Election
@@ -56,7 +69,8 @@ abbrev is_labelled : List ℕ → Option MemberValue → Bool
 is_labelled text (Some (a_plain (a_label (untranslated s)))) = bytes_eq s text
 is_labelled text v = false
 
-names : (is_labelled (codes "Test") (election_member left (codes "Name")) ≡ true) × (is_labelled (codes "Test") (election_member renamed (codes "Name")) ≡ false)
+names : (is_labelled (codes "Test") (election_member left (codes "Name")) ≡ true)
+    × (is_labelled (codes "Test") (election_member renamed (codes "Name")) ≡ false)
 unfolding serde_json_on_literals
 names = (refl, refl)
 
@@ -66,7 +80,8 @@ other_name e = true≢false (sym names.0 ∙ ap (is_labelled (codes "Test")) e �
 same_but_name : (name : List ℕ) → bytes_eq name (codes "Name") ≡ false → election_member left name ≡ election_member renamed name
 unfolding serde_json_on_literals
 same_but_name =
-    same_but_one (election_member left) (election_member renamed) (election_in left).value (election_in renamed).value (codes "Name") (absent_member None left (election_in left).value class.Election)
+    same_but_one (election_member left) (election_member renamed) (election_in left).value (election_in renamed).value (codes "Name")
+    (absent_member None left (election_in left).value class.Election)
     (absent_member None renamed (election_in renamed).value class.Election) refl
 
 pub before_itself : (k : Option Key) → option_cmp key_cmp k None ≡ Less → ⊥
@@ -74,7 +89,8 @@ before_itself None less = cc
 before_itself (Some k) less = cc
 
 -- meanings with equal reports and objects agree at all that comes before an election without a key
-pub before_elections : (m n : Meaning) → m.report ≡ n.report → ((f : Family) (k : Key) → m.objects f k ≡ n.objects f k) → (p : Part) (k : Option Key) → part_cmp p k part.Election None ≡ Less → record_at m p k ≡ record_at n p k
+pub before_elections : (m n : Meaning) → m.report ≡ n.report → ((f : Family) (k : Key) → m.objects f k ≡ n.objects f k) → (p : Part) (k : Option Key)
+    → part_cmp p k part.Election None ≡ Less → record_at m p k ≡ record_at n p k
 before_elections m n report objects part.Report None less = report
 before_elections m n report objects part.Election k less = absurd (before_itself k less)
 before_elections m n report objects part.Unit (Some k) less = objects family.Unit k
@@ -101,7 +117,8 @@ first_is_name = record {
     differ = other_name;
     least = λ name less. same_but_name name (sym (is_eq-slice_cmp name (codes "Name")) ∙ ap is_eq less);
   };
-  least = before_elections (meaning None left) (meaning None renamed) (same_object None left renamed left renamed role.Report class.ElectionReport refl refl refl) renamed_objects;
+  least = before_elections (meaning None left) (meaning None renamed)
+      (same_object None left renamed left renamed role.Report class.ElectionReport refl refl refl) renamed_objects;
 }
 
 -- a later member is not the first; the two are not equal
@@ -116,11 +133,13 @@ some_difference h = other_name (ap (λ m. option_and_then (λ r. r.members (code
 -- ---- another type of unit besides
 
 abbrev in_city : List ℕ
-in_city = codes "\"@type\":\"ElectionResults.ReportingUnit\",\"Type\":\"city\",\"ExternalIdentifier\":[{\"@type\":\"ElectionResults.ExternalIdentifier\",\"Type\":\"local-level\",\"Value\":\"U1\"}]"
+in_city = codes "\"@type\":\"ElectionResults.ReportingUnit\",\"Type\":\"city\",\"ExternalIdentifier\":[{\"@type\":\"ElectionResults.ExternalIdentifier\""
+    ++ codes ",\"Type\":\"local-level\",\"Value\":\"U1\"}]"
 
 -- the unit has another type and the election another name
 abbrev both_changed : Data
-both_changed = tree_of (one_unit_report status in_city (codes "\"@type\":\"ElectionResults.Election\",\"Name\":\"Trial\",\"Type\":\"general\",\"StartDate\":\"2026-11-03\",\"EndDate\":\"2026-11-03\",\"ElectionScopeId\":\"u7\""))
+both_changed = tree_of (one_unit_report status in_city (codes "\"@type\":\"ElectionResults.Election\",\"Name\":\"Trial\",\"Type\":\"general\""
+    ++ codes ",\"StartDate\":\"2026-11-03\",\"EndDate\":\"2026-11-03\",\"ElectionScopeId\":\"u7\""))
 
 abbrev is_county : Option MemberValue → Bool
 is_county (Some (a_plain (a_json (string s)))) = bytes_eq s (codes "county")
@@ -143,7 +162,8 @@ abbrev other_key : Key
 other_key = local_key (codes "U2")
 
 abbrev rekeyed : Data
-rekeyed = tree_of (one_unit_report status (codes "\"@type\":\"ElectionResults.ReportingUnit\",\"Type\":\"county\",\"ExternalIdentifier\":[{\"@type\":\"ElectionResults.ExternalIdentifier\",\"Type\":\"local-level\",\"Value\":\"U2\"}]") election)
+rekeyed = tree_of (one_unit_report status (codes "\"@type\":\"ElectionResults.ReportingUnit\",\"Type\":\"county\""
+    ++ codes ",\"ExternalIdentifier\":[{\"@type\":\"ElectionResults.ExternalIdentifier\",\"Type\":\"local-level\",\"Value\":\"U2\"}]") election)
 
 -- a key below a bound is none that is not below it
 pub not_in : (l k bound : Key) → key_cmp k bound ≡ Less → is_lt (key_cmp l bound) ≡ false → is_key_in (l ∷ []) k ≡ false
@@ -158,7 +178,8 @@ unfolding serde_json_on_literals
 before_unit part.Report None less = same_object None left rekeyed left rekeyed role.Report class.ElectionReport refl refl refl
 before_unit part.Report (Some k) less = refl
 before_unit part.Unit None less = refl
-before_unit part.Unit (Some k) less = no_record None left family.Unit k (not_in key k key less refl) ∙ sym (no_record None rekeyed family.Unit k (not_in other_key k key less refl))
+before_unit part.Unit (Some k) less = no_record None left family.Unit k (not_in key k key less refl)
+    ∙ sym (no_record None rekeyed family.Unit k (not_in other_key k key less refl))
 before_unit p k less = absurd (cc less)
 
 first_is_unit : IsFirstDifference (meaning None left) (meaning None rekeyed) (record { part = part.Unit; key = Some key; how = OnlyLeft })

@@ -1,5 +1,6 @@
 -- The list of all differences of the selections of two contests, and lists that are not.
-use Rattle.erd_compare.proofs.Common.{[], ◌≡◌, ◌⊎◌, ℕ, Bool, true, List, ◌∷◌, Some, None, Option, option_map, refl, inl, inr, Data, null, boolean, PlainValue, a_json, SelectionRecord, Class, Key, Member, OnlyLeft, OnlyRight}
+use Rattle.erd_compare.proofs.Common.{[], ◌≡◌, ◌⊎◌, ℕ, Bool, true, List, ◌∷◌, Some, None, Option, option_map, refl, inl, inr, Data, null, boolean, PlainValue}
+use Rattle.erd_compare.proofs.Common.{a_json, SelectionRecord, Class, Key, Member, OnlyLeft, OnlyRight}
 use Rattle.std.specs.List.Sorted.{IsStrictlySortedBy}
 use Rattle.std.specs.Prelude.{ℤ}
 use Rattle.erd_tables.specs.declared.class.Class.TheVariants as class
@@ -37,7 +38,8 @@ abbrev only : SelectionDifference
 only = left_alone line
 
 agree : (c : Class) (ks : List Key) (w : Bool) (o : Option ℤ) (l : Option (List ℕ)) (i : Option Key)
-    → AgreeBut (λ how. Stands (record { name = record { class = c; keys = ks; write_in = w; order = o; label = l; identifier = i }; how = how }) (only ∷ [])) (sole c ks w o l i) (without_selections line)
+    → AgreeBut (λ how. Stands (record { name = record { class = c; keys = ks; write_in = w; order = o; label = l; identifier = i }; how = how }) (only ∷ []))
+    (sole c ks w o l i) (without_selections line)
 agree class.CandidateSelection [] true None None None = inl refl
 agree c ks w o l i = tt
 
@@ -71,7 +73,8 @@ changed = record { name = line; how = Member [] }
 
 agree_but_note : (c : Class) (ks : List Key) (w : Bool) (o : Option ℤ) (l : Option (List ℕ)) (i : Option Key)
     → AgreeBut (λ how. Stands (record { name = record { class = c; keys = ks; write_in = w; order = o; label = l; identifier = i }; how = how }) (changed ∷ []))
-    (option_map (λ r. record { class = r.class; members = noted null }) (sole c ks w o l i)) (option_map (λ r. record { class = r.class; members = noted (boolean true) }) (sole c ks w o l i))
+    (option_map (λ r. record { class = r.class; members = noted null }) (sole c ks w o l i))
+    (option_map (λ r. record { class = r.class; members = noted (boolean true) }) (sole c ks w o l i))
 agree_but_note class.CandidateSelection [] true None None None = inr (refl, other_names)
   where
     other_names : (name : List ℕ) → (noted null name ≡ noted (boolean true) name) ⊎ Stands (record { name = line; how = Member name }) (changed ∷ [])

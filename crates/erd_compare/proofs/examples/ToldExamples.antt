@@ -1,5 +1,7 @@
 -- What a bound lets be told of contests whose selections differ: how long texts are, and which runs are told.
-use Rattle.erd_compare.proofs.Common.{[], ◌≡◌, ℕ, zero, ◌+◌, ◌≤◌, ◌++◌, Bool, AllByRecursion, serde_json_on_literals, false, List, ◌∷◌, Some, None, Option, codes, bytes_eq, sym, refl, ap, ◌∙◌, subst, inl, inr, arith, class, Class, Key, local_key, Meaning, ObjectRecord, a_selection_map, SelectionRecord, NameParts, Difference, Member, part, Family, family}
+use Rattle.erd_compare.proofs.Common.{[], ◌≡◌, ℕ, zero, ◌+◌, ◌≤◌, ◌++◌, Bool, AllByRecursion, serde_json_on_literals, false, List, ◌∷◌, Some, None, Option}
+use Rattle.erd_compare.proofs.Common.{codes, bytes_eq, sym, refl, ap, ◌∙◌, subst, inl, inr, arith, class, Class, Key, local_key, Meaning, ObjectRecord}
+use Rattle.erd_compare.proofs.Common.{a_selection_map, SelectionRecord, NameParts, Difference, Member, part, Family, family}
 use Rattle.std.specs.List.Sorted.{IsStrictlySortedBy}
 use Rattle.std.specs.Prelude.{ℤ, if◌then◌else◌, sum_by}
 use Rattle.std.specs.Global.{Vec}
@@ -46,7 +48,8 @@ nothing_told : text_size None ≡ 0
 nothing_told = refl
 
 agree : (c : Class) (ks : List Key) (w : Bool) (o : Option ℤ) (l : Option (List ℕ)) (i : Option Key)
-    → AgreeBut (λ how. Stands (record { name = record { class = c; keys = ks; write_in = w; order = o; label = l; identifier = i }; how = how }) (only ∷ [])) (sole c ks w o l i) (without_selections labelled)
+    → AgreeBut (λ how. Stands (record { name = record { class = c; keys = ks; write_in = w; order = o; label = l; identifier = i }; how = how }) (only ∷ []))
+    (sole c ks w o l i) (without_selections labelled)
 agree class.BallotMeasureSelection [] false None (Some (zero ∷ [])) None = inl refl
 agree c ks w o l i = tt
 
@@ -94,7 +97,16 @@ told v items =
 
 -- and 98 are not
 untold : IsRun 98 (detailed None ∷ [])
-untold = let size = one_text in record { run = []; behind = detailed None ∷ []; split = refl; whole = tt; fits = omega arith; bare = (refl, tt); longest = (Some (only ∷ []), (refl, are_all), omega (arith, size)) }
+untold = let size = one_text in
+    record {
+      run = [];
+      behind = detailed None ∷ [];
+      split = refl;
+      whole = tt;
+      fits = omega arith;
+      bare = (refl, tt);
+      longest = (Some (only ∷ []), (refl, are_all), omega (arith, size));
+    }
 
 -- of three, one is told within 197, and none behind it
 one_of_three : (v : Vec SelectionDifference) → v.items ≡ only ∷ [] → IsRun 197 (detailed (Some v) ∷ detailed None ∷ detailed None ∷ [])
@@ -132,7 +144,8 @@ long_enough ds are =
 not_beyond : (v : Vec SelectionDifference) → IsRun 98 (detailed (Some v) ∷ []) → ⊥
 not_beyond v h = at h.run h.behind h.split h.whole h.fits h.bare
   where
-    at : (run behind : List DetailedDifference) → detailed (Some v) ∷ [] ≡ run ++ behind → AllByRecursion (IsWhole (meaning_of one) (meaning_of without_selections)) run → sum_by size_of run ≤ 98 → AllByRecursion IsBare behind → ⊥
+    at : (run behind : List DetailedDifference) → detailed (Some v) ∷ [] ≡ run ++ behind
+        → AllByRecursion (IsWhole (meaning_of one) (meaning_of without_selections)) run → sum_by size_of run ≤ 98 → AllByRecursion IsBare behind → ⊥
     at [] behind split whole fits bare = let none : Some v.items ≡ None = (subst (AllByRecursion IsBare) (sym split) bare).0 in cc
     at (e ∷ es) behind split whole fits bare =
         let same : e ≡ detailed (Some v) = cc in

@@ -1,5 +1,8 @@
 -- The first difference of two meanings, as the parts are gone over in their order.
-use Rattle.erd_compare.proofs.Common.{◌≡◌, ℕ, ◌+◌, ◌<◌, ◌≤◌, ◌⊎◌, List, [], ◌∷◌, get_or, Some, None, Option, nat_cmp, Ordering, Less, Equal, Greater, sym, refl, ap, ◌∙◌, subst, inl, inr, arith, cases_order, option_cmp, ordering_then, Data, Family, family, key_cmp, Preference, meaning, records_of, nat_cmp_is, same_meaning, Meaning, Key, part_number, part_cmp, record_at, Differ, IsFirstDifference, DifferAtPart, Difference, Part, part}
+use Rattle.erd_compare.proofs.Common.{◌≡◌, ℕ, ◌+◌, ◌<◌, ◌≤◌, ◌⊎◌, List, [], ◌∷◌, get_or, Some, None, Option, nat_cmp, Ordering, Less, Equal, Greater, sym, refl}
+use Rattle.erd_compare.proofs.Common.{ap, ◌∙◌, subst, inl, inr, arith, cases_order, option_cmp, ordering_then, Data, Family, family, key_cmp, Preference}
+use Rattle.erd_compare.proofs.Common.{meaning, records_of, nat_cmp_is, same_meaning, Meaning, Key, part_number, part_cmp, record_at, Differ, IsFirstDifference}
+use Rattle.erd_compare.proofs.Common.{DifferAtPart, Difference, Part, part}
 use Rattle.std.proofs.lemmas.List.{get_or-map}
 use Rattle.std.proofs.lemmas.List.FromFn.{get_or-range_with_len}
 
@@ -36,7 +39,8 @@ below_more : (j i : ℕ) → j < i + 1 → (j < i) ⊎ (j ≡ i)
 below_more j i low = grind arith
 
 -- one more part
-pub equal_more : (m n : Meaning) (i : ℕ) → AreEqualBelow m n i → ((k : Option Key) → record_at m (part_at i) k ≡ record_at n (part_at i) k) → AreEqualBelow m n (i + 1)
+pub equal_more : (m n : Meaning) (i : ℕ) → AreEqualBelow m n i → ((k : Option Key) → record_at m (part_at i) k ≡ record_at n (part_at i) k)
+    → AreEqualBelow m n (i + 1)
 equal_more m n i below here p k low = at (below_more (part_number p) i low)
   where
     at : (part_number p < i) ⊎ (part_number p ≡ i) → record_at m p k ≡ record_at n p k
@@ -60,15 +64,18 @@ first_told m n i d low below h = record {
     number = ap part_number h.its_part ∙ number_at i low
 
     at : (p : Part) (k : Option Key) → part_cmp p k d.part d.key ≡ Less
-        → (part_number p ≡ part_number d.part) ⊎ ((part_number p < part_number d.part) ⊎ (part_number d.part < part_number p)) → record_at m p k ≡ record_at n p k
+        → (part_number p ≡ part_number d.part) ⊎ ((part_number p < part_number d.part) ⊎ (part_number d.part < part_number p))
+        → record_at m p k ≡ record_at n p k
     at p k less (inl same) =
-        subst (λ q. record_at m q k ≡ record_at n q k) (numbered p i (same ∙ number)) (h.at.least k (after_equal (part_number p) (part_number d.part) (option_cmp key_cmp k d.key) same less))
+        subst (λ q. record_at m q k ≡ record_at n q k) (numbered p i (same ∙ number))
+        (h.at.least k (after_equal (part_number p) (part_number d.part) (option_cmp key_cmp k d.key) same less))
     at p k less (inr (inl lower)) = below p k (subst (λ j. part_number p < j) number lower)
     at p k less (inr (inr higher)) = absurd (after_greater (part_number p) (part_number d.part) (option_cmp key_cmp k d.key) higher less)
 
 -- ---- equal at every part
 
-equal_objects : (π ρ : Preference) (t u : Data) → ((p : Part) (k : Option Key) → record_at (meaning π t) p k ≡ record_at (meaning ρ u) p k) → (f : Family) (k : Key) → records_of π t f k ≡ records_of ρ u f k
+equal_objects : (π ρ : Preference) (t u : Data) → ((p : Part) (k : Option Key) → record_at (meaning π t) p k ≡ record_at (meaning ρ u) p k)
+    → (f : Family) (k : Key) → records_of π t f k ≡ records_of ρ u f k
 equal_objects π ρ t u all family.Unit k = all part.Unit (Some k)
 equal_objects π ρ t u all family.Party k = all part.Party (Some k)
 equal_objects π ρ t u all family.Person k = all part.Person (Some k)

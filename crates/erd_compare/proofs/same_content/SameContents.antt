@@ -1,5 +1,11 @@
 -- Two lists that are compared one entry after another: what is left of them is the same exactly if they are.
-use Rattle.erd_compare.proofs.Common.{◌≡◌, ℕ, ◌+◌, ◌<◌, true, false, List, ◌∷◌, map, length, get_or, drop, sym, ap, ◌∙◌, ap₂, true≢false, add-one, drop-cons, Decides, [], suc, Bool, ◌==◌, Option, refl, arith, Decides-eqb, Data, array, Items, no_items, item, view, Value, list_of_items, entries_of, Preference, Content, no_content, first_node, Node, a_contest, a_header, NameParts, content_of, JsonMap, nodes_of, node_of, Key, zero, ◌≤◌, Some, codes, object, get, items_view, Judged, depth, members_depth, items_depth, get_member-depth, class_of_node, is_header_class, None, option_and_then, fun_ext, same_Some, subst, as_object, Members, no_members, member, as_str, class, family, carried_members, text_at, entries_at, key_named, name_named, Carried}
+use Rattle.erd_compare.proofs.Common.{◌≡◌, ℕ, ◌+◌, ◌<◌, true, false, List, ◌∷◌, map, length, get_or, drop, sym, ap, ◌∙◌, ap₂, true≢false, add-one, drop-cons}
+use Rattle.erd_compare.proofs.Common.{Decides, [], suc, Bool, ◌==◌, Option, refl, arith, Decides-eqb, Data, array, Items, no_items, item, view, Value}
+use Rattle.erd_compare.proofs.Common.{list_of_items, entries_of, Preference, Content, no_content, first_node, Node, a_contest, a_header, NameParts, content_of}
+use Rattle.erd_compare.proofs.Common.{JsonMap, nodes_of, node_of, Key, zero, ◌≤◌, Some, codes, object, get, items_view, Judged, depth, members_depth}
+use Rattle.erd_compare.proofs.Common.{items_depth, get_member-depth, class_of_node, is_header_class, None, option_and_then, fun_ext, same_Some, subst}
+use Rattle.erd_compare.proofs.Common.{as_object, Members, no_members, member, as_str, class, family, carried_members, text_at, entries_at, key_named}
+use Rattle.erd_compare.proofs.Common.{name_named, Carried}
 use Rattle.std.proofs.lemmas.Simd.{map-map}
 use Rattle.erd_compare.proofs.same_values.SameValues.{decides_as, carried_by_choice, get_member-chosen_in}
 use Rattle.erd_meaning.proofs.meanings.InnerContent.{content_at, content_inside-get}
@@ -28,7 +34,8 @@ module _ {A B : Type 0} (f g : A → B) where
   }
 
   -- they differ where two entries do
-  pub differ_here : (xs : List A) (i : ℕ) (x y : A) (left left' : List A) (all all' : List B) → i < length xs → x ≡ get_or xs i x → left ≡ y ∷ left' → (f x ≡ g y → false ≡ true)
+  pub differ_here : (xs : List A) (i : ℕ) (x y : A) (left left' : List A) (all all' : List B) → i < length xs → x ≡ get_or xs i x → left ≡ y ∷ left'
+      → (f x ≡ g y → false ≡ true)
       → AreSameIfLeft all all' (map f (drop i xs)) (map g left) → Decides false all all'
   differ_here xs i x y left left' all all' low here next differ so_far = (
     λ e. absurd (true≢false (sym e)),
@@ -71,17 +78,27 @@ pub contest-Decides : {p q : Bool} {k l : Option Key} {m n : JsonMap} {xs ys : L
 contest-Decides outside held names =
     (λ e. ap₂ (λ (o : Option Key × JsonMap) (zs : List (Option NameParts)). a_contest o.0 zs o.1) (outside.0 held) (names.0 e), λ same. names.1 (cc))
 
-pub contest-differs : {p : Bool} {k l : Option Key} {m n : JsonMap} {xs ys : List (Option NameParts)} → Decides {A = Option Key × JsonMap} p (k, m) (l, n) → p ≡ false → Decides p (a_contest k xs m) (a_contest l ys n)
-contest-differs {k = k} {l = l} {m = m} {n = n} outside failed =
-    (λ e. absurd (true≢false (sym e ∙ failed)), λ same. let key : k ≡ l = cc in let others : m ≡ n = cc in outside.1 (ap₂ (λ (x : Option Key) (y : JsonMap). (x, y)) key others))
+pub contest-differs : {p : Bool} {k l : Option Key} {m n : JsonMap} {xs ys : List (Option NameParts)} → Decides {A = Option Key × JsonMap} p (k, m) (l, n)
+    → p ≡ false → Decides p (a_contest k xs m) (a_contest l ys n)
+contest-differs {k = k} {l = l} {m = m} {n = n} outside failed = (
+  λ e. absurd (true≢false (sym e ∙ failed)),
+  λ same. let key : k ≡ l = cc in let others : m ≡ n = cc in
+      outside.1 (ap₂ (λ (x : Option Key) (y : JsonMap). (x, y)) key others),
+)
 
 -- headers are the same exactly if what they mean outside and inside is
-pub header-Decides : {p q : Bool} {k l : Option Key} {m n : JsonMap} {x y : Content} → Decides {A = Option Key × JsonMap} p (k, m) (l, n) → p ≡ true → Decides q x y → Decides q (a_header k x m) (a_header l y n)
-header-Decides outside held inside = (λ e. ap₂ (λ (o : Option Key × JsonMap) (z : Content). a_header o.0 z o.1) (outside.0 held) (inside.0 e), λ same. inside.1 (cc))
+pub header-Decides : {p q : Bool} {k l : Option Key} {m n : JsonMap} {x y : Content} → Decides {A = Option Key × JsonMap} p (k, m) (l, n) → p ≡ true
+    → Decides q x y → Decides q (a_header k x m) (a_header l y n)
+header-Decides outside held inside =
+    (λ e. ap₂ (λ (o : Option Key × JsonMap) (z : Content). a_header o.0 z o.1) (outside.0 held) (inside.0 e), λ same. inside.1 (cc))
 
-pub header-differs : {p : Bool} {k l : Option Key} {m n : JsonMap} {x y : Content} → Decides {A = Option Key × JsonMap} p (k, m) (l, n) → p ≡ false → Decides p (a_header k x m) (a_header l y n)
-header-differs {k = k} {l = l} {m = m} {n = n} outside failed =
-    (λ e. absurd (true≢false (sym e ∙ failed)), λ same. let key : k ≡ l = cc in let others : m ≡ n = cc in outside.1 (ap₂ (λ (x : Option Key) (y : JsonMap). (x, y)) key others))
+pub header-differs : {p : Bool} {k l : Option Key} {m n : JsonMap} {x y : Content} → Decides {A = Option Key × JsonMap} p (k, m) (l, n) → p ≡ false
+    → Decides p (a_header k x m) (a_header l y n)
+header-differs {k = k} {l = l} {m = m} {n = n} outside failed = (
+  λ e. absurd (true≢false (sym e ∙ failed)),
+  λ same. let key : k ≡ l = cc in let others : m ≡ n = cc in
+      outside.1 (ap₂ (λ (x : Option Key) (y : JsonMap). (x, y)) key others),
+)
 
 -- no contest is a header
 pub contest-header : {k l : Option Key} {xs : List (Option NameParts)} {y : Content} {m n : JsonMap} → Decides false (a_contest k xs m) (a_header l y n)
@@ -105,14 +122,20 @@ more_than_none : (vs : List Value) → (suc (length vs) == 0) ≡ true → ⊥
 more_than_none vs e = let h : suc (length vs) ≡ 0 = (Decides-eqb (suc (length vs)) 0).0 e in absurd (omega arith)
 
 -- a value with no entries has no content
-pub none-Decides : (π : Preference) (t d : Data) (vs : List Value) (answer : Bool) → map view vs ≡ entries_of d → answer ≡ (length vs == 0) → Decides answer no_content (content_of π t d)
+pub none-Decides : (π : Preference) (t d : Data) (vs : List Value) (answer : Bool) → map view vs ≡ entries_of d → answer ≡ (length vs == 0)
+    → Decides answer no_content (content_of π t d)
 none-Decides π t d vs answer entries is = at (content_of-entries π t d) vs refl
   where
-    at : (ds : Items) × (list_of_items ds ≡ entries_of d) × (content_of π t d ≡ nodes_of π t ds) → (ws : List Value) → vs ≡ ws → Decides answer no_content (content_of π t d)
+    at : (ds : Items) × (list_of_items ds ≡ entries_of d) × (content_of π t d ≡ nodes_of π t ds) → (ws : List Value) → vs ≡ ws
+        → Decides answer no_content (content_of π t d)
     at (no_items, e, f) [] g = (λ h. sym f, λ h. is ∙ ap (λ (ws : List Value). length ws == 0) g)
     at (item c ds, e, f) [] g = let h : c ∷ list_of_items ds ≡ [] = e ∙ (sym entries ∙ ap (map view) g) in cc
     at (no_items, e, f) (w ∷ ws) g = let h : [] ≡ view w ∷ map view ws = e ∙ (sym entries ∙ ap (map view) g) in cc
-    at (item c ds, e, f) (w ∷ ws) g = (λ h. absurd (more_than_none ws (sym (is ∙ ap (λ (ws : List Value). length ws == 0) g) ∙ h)), λ h. let j : no_content ≡ first_node (node_of π t c) (nodes_of π t ds) = h ∙ f in cc)
+    at (item c ds, e, f) (w ∷ ws) g = (
+      λ h. absurd (more_than_none ws (sym (is ∙ ap (λ (ws : List Value). length ws == 0) g) ∙ h)),
+      λ h. let j : no_content ≡ first_node (node_of π t c)
+          (nodes_of π t ds) = h ∙ f in cc,
+    )
 
 -- contents are the same exactly if their entries are as nodes
 pub content-Decides : (π ρ : Preference) (t u d e : Data) (vs ws : List Value) (answer : Bool) → map view vs ≡ entries_of d → map view ws ≡ entries_of e
@@ -120,8 +143,10 @@ pub content-Decides : (π ρ : Preference) (t u d e : Data) (vs ws : List Value)
 content-Decides π ρ t u d e vs ws answer one other same =
     let left = content_of-entries π t d in
     let right = content_of-entries ρ u e in
-    let ones : map (λ v. node_of π t (view v)) vs ≡ nodes π t left.0 = sym (map-map (node_of π t) view vs) ∙ ap (map (node_of π t)) (one ∙ sym left.1) in
-    let others : map (λ v. node_of ρ u (view v)) ws ≡ nodes ρ u right.0 = sym (map-map (node_of ρ u) view ws) ∙ ap (map (node_of ρ u)) (other ∙ sym right.1) in (
+    let ones : map (λ v. node_of π t (view v)) vs ≡ nodes π t left.0 =
+    sym (map-map (node_of π t) view vs) ∙ ap (map (node_of π t)) (one ∙ sym left.1) in
+    let others : map (λ v. node_of ρ u (view v)) ws ≡ nodes ρ u right.0 =
+    sym (map-map (node_of ρ u) view ws) ∙ ap (map (node_of ρ u)) (other ∙ sym right.1) in (
       λ h. left.2 ∙ (nodes-same π ρ t u left.0 right.0 (sym ones ∙ (same.0 h ∙ others)) ∙ sym right.2),
       λ h. same.1 (ones ∙ (same-nodes π ρ t u left.0 right.0 (sym left.2 ∙ (h ∙ right.2)) ∙ sym others)),
     )
@@ -140,7 +165,8 @@ within_get π t d e = ap (content_at π t) (sym e)
 
 -- what stands inside two values is the same exactly if their members are
 pub within_decides : (a b : Judged) (d e : Data) {o p : Option Data} (answer : Bool) → get (codes "OrderedContent") d ≡ o → get (codes "OrderedContent") e ≡ p
-    → Decides answer (content_at a.prefer (view a.tree) o) (content_at b.prefer (view b.tree) p) → Decides answer (content_within a.prefer (view a.tree) d) (content_within b.prefer (view b.tree) e)
+    → Decides answer (content_at a.prefer (view a.tree) o) (content_at b.prefer (view b.tree) p) → Decides answer (content_within a.prefer (view a.tree) d)
+    (content_within b.prefer (view b.tree) e)
 within_decides a b d e answer left right h = decides_as refl (within_get a.prefer (view a.tree) d left) (within_get b.prefer (view b.tree) e right) h
 
 -- ---- headers and contests
@@ -200,7 +226,8 @@ carries_none a b c =
     fun_ext (λ name. sym (get_member-chosen_in name (Carried (Some class.OrderedContest)) d ∙ carried_by_choice (Some class.OrderedContest) d name))
 
 -- and is a plain contest, if it has the class
-plain_object : (a b c : Data) (found : PlainContest) → as_str a ≡ Some (text_of_class class.OrderedContest) → found.contest.now ≡ text_of b → map view found.selections.now ≡ entries_of c
+plain_object : (a b c : Data) (found : PlainContest) → as_str a ≡ Some (text_of_class class.OrderedContest) → found.contest.now ≡ text_of b
+    → map view found.selections.now ≡ entries_of c
     → IsPlainContest (object (table_members a b c)) found
 plain_object a b c found type contest selections = record {
   its_class = rw type refl;
@@ -223,8 +250,10 @@ name_in π t d = option_and_then (name_named π t) (as_str d)
 -- what it means as a node
 pub plain_means : (π : Preference) (t d : Data) (found : PlainContest) → IsPlainContest d found → node_of π t d ≡ plain_node π t found
 plain_means π t d found is =
-    let keys : key_named π t family.Contest (text_at (codes "ContestId") d) ≡ key_named π t family.Contest found.contest.now = ap (λ id. key_named π t family.Contest id) (sym is.contest) in
-    let names : map (name_in π t) (entries_at (codes "OrderedContestSelectionIds") d) ≡ map (λ v. name_in π t (view v)) found.selections.now = ap (map (name_in π t)) (sym is.selections) ∙ map-map (name_in π t) view found.selections.now in
+    let keys : key_named π t family.Contest (text_at (codes "ContestId") d) ≡ key_named π t family.Contest found.contest.now =
+    ap (λ id. key_named π t family.Contest id) (sym is.contest) in
+    let names : map (name_in π t) (entries_at (codes "OrderedContestSelectionIds") d) ≡ map (λ v. name_in π t (view v)) found.selections.now =
+    ap (map (name_in π t)) (sym is.selections) ∙ map-map (name_in π t) view found.selections.now in
     let others : carried_members (class_of_node d) d ≡ (λ name. None) = ap (λ c. carried_members c d) is.its_class ∙ is.carried in
     node_contest π t d (ap is_header_class is.its_class)
     ∙ ap (λ k. a_contest k (map (name_in π t) (entries_at (codes "OrderedContestSelectionIds") d)) (carried_members (class_of_node d) d)) keys

@@ -1,5 +1,14 @@
 -- The first position of a key in a list.
-use Rattle.erd_compare.proofs.Common.{◌≡◌, ℕ, zero, suc, ◌+◌, ◌<◌, Bool, true, false, cond, ◌⊎◌, List, [], ◌∷◌, ◌++◌, length, slice_get, Some, Option, is_eq, Less, Equal, sym, refl, ap, ◌∙◌, subst, inl, inr, true≢false, arith, cases_order, tied_itself, same_Some, IsStrictlySortedBy, option_cmp, key_cmp, sorted_at, options_exact, equal_keys, Key, place_of, ◌≤◌, map, take, None, Ordering, Greater, take_all, map-append, take_more, slice_get_within, get_or_from_slice_get, greater_turned, next_cmp, ◌==◌, option_map, slice_get-map, Data, view, Role, Judged, Preference, rank_in_keys, option_eq, common_rank, rank_of_key, AreCommonRanks, common_ranks_in, AreAllCommonRanks, Decides, keys_in_role, is_ranked, rising_in_role, HasKeyAt, IsComparable, on_side, AreCommonByRank, CommonRanks, ComparedReport, Left, Right, position_of, option_and_then, ap₂, Family, role, has_keys, key_of, election_key_in, Placed, elections, objects, has_id, owner_at, owner, key_named, option_and_then_some, find-Some, option_map-Some, common_rank_of, key_with_role, key_in_role, holder_in, holder_key_in, rank_with_id}
+use Rattle.erd_compare.proofs.Common.{◌≡◌, ℕ, zero, suc, ◌+◌, ◌<◌, Bool, true, false, cond, ◌⊎◌, List, [], ◌∷◌, ◌++◌, length, slice_get, Some, Option, is_eq}
+use Rattle.erd_compare.proofs.Common.{Less, Equal, sym, refl, ap, ◌∙◌, subst, inl, inr, true≢false, arith, cases_order, tied_itself, same_Some}
+use Rattle.erd_compare.proofs.Common.{IsStrictlySortedBy, option_cmp, key_cmp, sorted_at, options_exact, equal_keys, Key, place_of, ◌≤◌, map, take, None}
+use Rattle.erd_compare.proofs.Common.{Ordering, Greater, take_all, map-append, take_more, slice_get_within, get_or_from_slice_get, greater_turned, next_cmp}
+use Rattle.erd_compare.proofs.Common.{◌==◌, option_map, slice_get-map, Data, view, Role, Judged, Preference, rank_in_keys, option_eq, common_rank, rank_of_key}
+use Rattle.erd_compare.proofs.Common.{AreCommonRanks, common_ranks_in, AreAllCommonRanks, Decides, keys_in_role, is_ranked, rising_in_role, HasKeyAt}
+use Rattle.erd_compare.proofs.Common.{IsComparable, on_side, AreCommonByRank, CommonRanks, ComparedReport, Left, Right, position_of, option_and_then, ap₂}
+use Rattle.erd_compare.proofs.Common.{Family, role, has_keys, key_of, election_key_in, Placed, elections, objects, has_id, owner_at, owner, key_named}
+use Rattle.erd_compare.proofs.Common.{option_and_then_some, find-Some, option_map-Some, common_rank_of, key_with_role, key_in_role, holder_in, holder_key_in}
+use Rattle.erd_compare.proofs.Common.{rank_with_id}
 use Rattle.erd_compare.proofs.least_difference.RisingKeys.{by_key, by_key_total, all_rise, at_rank, keys_rise}
 use Rattle.std.proofs.lemmas.List.{length_push}
 use Rattle.std.proofs.lemmas.Option.{slice_get-get_or}
@@ -37,7 +46,8 @@ pub place_first : (k : Option Key) (ks ms : List (Option Key)) → slice_get ks 
 place_first k [] ms e = cc
 place_first k (l ∷ ls) ms e = at (same k l) e (place_first k ls ms)
   where
-    at : (b : Bool) → slice_get (l ∷ ls) (cond b 0 (suc (place_of k ls))) ≡ Some k → (slice_get ls (place_of k ls) ≡ Some k → place_of k (ls ++ ms) ≡ place_of k ls)
+    at : (b : Bool) → slice_get (l ∷ ls) (cond b 0 (suc (place_of k ls))) ≡ Some k
+        → (slice_get ls (place_of k ls) ≡ Some k → place_of k (ls ++ ms) ≡ place_of k ls)
         → cond b 0 (suc (place_of k (ls ++ ms))) ≡ cond b 0 (suc (place_of k ls))
     at true e rest = refl
     at false e rest = ap suc (rest e)
@@ -47,7 +57,8 @@ pub place_second : (k : Option Key) (ks ms : List (Option Key)) → StandsNowher
 place_second k [] ms none = omega arith
 place_second k (l ∷ ls) ms none = at (same k l) refl (place_second k ls ms (λ i e. none (suc i) e))
   where
-    at : (b : Bool) → same k l ≡ b → place_of k (ls ++ ms) ≡ length ls + place_of k ms → cond b 0 (suc (place_of k (ls ++ ms))) ≡ suc (length ls) + place_of k ms
+    at : (b : Bool) → same k l ≡ b → place_of k (ls ++ ms) ≡ length ls + place_of k ms → cond b 0 (suc (place_of k (ls ++ ms)))
+        ≡ suc (length ls) + place_of k ms
     at true is rest = absurd (none 0 (ap Some (sym (options_exact key_cmp equal_keys k l is))))
     at false is rest = omega (arith, rest)
 
@@ -96,7 +107,8 @@ pub record IsMergedTo (ones others : List (Option Key)) (passed : ℕ) (ranks : 
   pub below : (i j : ℕ) (k l : Option Key) → i < passed → length ranks ≤ j → slice_get ones i ≡ Some k → slice_get others j ≡ Some l → by_key k l ≡ Less
   pub done : ranks ≡ map (rank ones others) (take (length ranks) others)
 
-module _ (ones others : List (Option Key)) (up : IsStrictlySortedBy by_key ones) (more : IsStrictlySortedBy by_key others) (passed : ℕ) (ranks : List ℕ) (m : IsMergedTo ones others passed ranks)
+module _ (ones others : List (Option Key)) (up : IsStrictlySortedBy by_key ones) (more : IsStrictlySortedBy by_key others) (passed : ℕ) (ranks : List ℕ)
+    (m : IsMergedTo ones others passed ranks)
     (key : Option Key) (here : slice_get others (length ranks) ≡ Some key) where
   low : length ranks < length others
   low = slice_get_within others (length ranks) key here
@@ -118,8 +130,10 @@ module _ (ones others : List (Option Key)) (up : IsStrictlySortedBy by_key ones)
           of (inr (inl l)) = by_key_total.trans k key y less (sorted_at by_key others (length ranks) j key y more l here g)
           of (inr (inr h)) = absurd (omega (arith, over, h))
 
-      at : (i j : ℕ) (x y : Option Key) → length ranks ≤ j → slice_get ones i ≡ Some x → slice_get others j ≡ Some y → (i ≡ passed) ⊎ ((i < passed) ⊎ (passed < i)) → i < passed + 1 → by_key x y ≡ Less
-      at i j x y over e g (inl same) under = let its : k ≡ x = same_Some _ _ (sym there ∙ (ap (slice_get ones) (sym same) ∙ e)) in subst (λ z. by_key z y ≡ Less) its (up_to j y over g)
+      at : (i j : ℕ) (x y : Option Key) → length ranks ≤ j → slice_get ones i ≡ Some x → slice_get others j ≡ Some y → (i ≡ passed)
+          ⊎ ((i < passed) ⊎ (passed < i)) → i < passed + 1 → by_key x y ≡ Less
+      at i j x y over e g (inl same) under = let its : k ≡ x = same_Some _ _ (sym there ∙ (ap (slice_get ones) (sym same) ∙ e)) in
+          subst (λ z. by_key z y ≡ Less) its (up_to j y over g)
       at i j x y over e g (inr (inl l)) under = m.below i j x y l over e g
       at i j x y over e g (inr (inr h)) under = absurd (omega (arith, h, under))
 
@@ -134,7 +148,8 @@ module _ (ones others : List (Option Key)) (up : IsStrictlySortedBy by_key ones)
             ∙ (ap (λ v. map (rank ones others) (take (length ranks) others) ++ v ∷ []) is
             ∙ (sym (map-append (rank ones others) (take (length ranks) others) (key ∷ []))
             ∙ ap (map (rank ones others))
-            (sym (take_more others (length ranks) key low ∙ ap (λ x. take (length ranks) others ++ x ∷ []) (get_or_from_slice_get others (length ranks) key key here))
+            (sym (take_more others (length ranks) key low ∙ ap (λ x. take (length ranks) others ++ x ∷ [])
+            (get_or_from_slice_get others (length ranks) key key here))
             ∙ ap (λ c. take c others) (sym long))));
       }
 
@@ -145,7 +160,8 @@ module _ (ones others : List (Option Key)) (up : IsStrictlySortedBy by_key ones)
       one_done passed (sym (place_first key ones others (ap (slice_get ones) place ∙ there) ∙ place))
 
   -- a key of the second list alone
-  pub other_done : ((k : Option Key) → slice_get ones passed ≡ Some k → by_key k key ≡ Greater) → IsMergedTo ones others passed (ranks ++ (length ones + length ranks) ∷ [])
+  pub other_done : ((k : Option Key) → slice_get ones passed ≡ Some k → by_key k key ≡ Greater)
+      → IsMergedTo ones others passed (ranks ++ (length ones + length ranks) ∷ [])
   other_done greater =
       one_done (length ones + length ranks)
       (ap (λ j. length ones + j) (sym (place_there others (length ranks) key more here)) ∙ sym (place_second key ones others nowhere))
@@ -166,12 +182,14 @@ module _ (ones others : List (Option Key)) (up : IsStrictlySortedBy by_key ones)
               high (Some k) is = not_itself key (by_key_total.trans key k key (above k is) (sorted_at by_key ones passed i k key up h is e))
 
 -- all are done
-pub all_merged : (ones others : List (Option Key)) (passed : ℕ) (ranks : List ℕ) → IsMergedTo ones others passed ranks → length others ≤ length ranks → ranks ≡ map (rank ones others) others
+pub all_merged : (ones others : List (Option Key)) (passed : ℕ) (ranks : List ℕ) → IsMergedTo ones others passed ranks → length others ≤ length ranks
+    → ranks ≡ map (rank ones others) others
 all_merged ones others passed ranks m all = m.done ∙ ap (map (rank ones others)) (take_all (length ranks) others all)
 
 -- ---- how the next keys compare
 
-pub next_there : (o : Option (Option Key)) (key : Option Key) (x : Ordering) → next_cmp o (Some key) ≡ x → (x ≡ Greater → ⊥) → (k : Option Key) × (o ≡ Some k) × (by_key k key ≡ x)
+pub next_there : (o : Option (Option Key)) (key : Option Key) (x : Ordering) → next_cmp o (Some key) ≡ x → (x ≡ Greater → ⊥) → (k : Option Key)
+    × (o ≡ Some k) × (by_key k key ≡ x)
 next_there None key x is other = absurd (other (sym is))
 next_there (Some k) key x is other = (k, refl, is)
 
@@ -196,7 +214,8 @@ module _ (a b : Judged) (r : Role) where
   -- ---- ranks
 
   -- the common rank of a key of the left report is its rank
-  left_rank : IsComparable a.prefer (view a.tree) → is_ranked r ≡ true → (i : ℕ) (k : Option Key) → HasKeyAt a.prefer (view a.tree) r i k → common_rank a b r k ≡ rank_in_keys (keys_in_role a.prefer (view a.tree) r) k
+  left_rank : IsComparable a.prefer (view a.tree) → is_ranked r ≡ true → (i : ℕ) (k : Option Key) → HasKeyAt a.prefer (view a.tree) r i k → common_rank a b r k
+      ≡ rank_in_keys (keys_in_role a.prefer (view a.tree) r) k
   left_rank c ranked i k h =
       let n = rank_in_keys (keys_in_role a.prefer (view a.tree) r) k in
       let stands : slice_get keys_left n ≡ Some k = at_rank a.prefer (view a.tree) r c ranked i k h in
@@ -204,11 +223,13 @@ module _ (a b : Judged) (r : Role) where
       place_first k keys_left keys_right (ap (slice_get keys_left) place ∙ stands) ∙ place
 
   -- that of a key of the right report is listed at its rank
-  right_rank : IsComparable b.prefer (view b.tree) → is_ranked r ≡ true → (ranks : List ℕ) → AreCommonRanks a b r ranks → (i : ℕ) (k : Option Key) → HasKeyAt b.prefer (view b.tree) r i k
+  right_rank : IsComparable b.prefer (view b.tree) → is_ranked r ≡ true → (ranks : List ℕ) → AreCommonRanks a b r ranks → (i : ℕ) (k : Option Key)
+      → HasKeyAt b.prefer (view b.tree) r i k
       → slice_get ranks (rank_in_keys (keys_in_role b.prefer (view b.tree) r) k) ≡ Some (common_rank a b r k)
   right_rank d ranked ranks are i k h =
       let n = rank_in_keys (keys_in_role b.prefer (view b.tree) r) k in
-      ap (λ ns. slice_get ns n) are ∙ (slice_get-map (common_rank a b r) keys_right n ∙ ap (option_map (common_rank a b r)) (at_rank b.prefer (view b.tree) r d ranked i k h))
+      ap (λ ns. slice_get ns n) are
+      ∙ (slice_get-map (common_rank a b r) keys_right n ∙ ap (option_map (common_rank a b r)) (at_rank b.prefer (view b.tree) r d ranked i k h))
 
   -- ---- keys and ranks
 
@@ -220,7 +241,8 @@ module _ (a b : Judged) (r : Role) where
   one_rank k l mine its e = let same : Some k ≡ Some l = one_place (Some k) (Some l) both_keys mine its e in cc
 
   -- equal ranks are those of equal keys
-  pub ranks_decide : (o q : Option Key) → IsKnown o → IsKnown q → Decides (option_eq ◌==◌ (option_map (rank_of_key a b r) o) (option_map (rank_of_key a b r) q)) o q
+  pub ranks_decide : (o q : Option Key) → IsKnown o → IsKnown q
+      → Decides (option_eq ◌==◌ (option_map (rank_of_key a b r) o) (option_map (rank_of_key a b r) q)) o q
   ranks_decide o q mine its = options_decide (rank_of_key a b r) o q (λ k l e g. one_rank k l (mine k e) (its l g))
 
 -- ---- on a side
@@ -249,8 +271,10 @@ module _ (a b : Judged) where
 -- a key that is found at a position is that of the object there
 pub stands_there : (π : Preference) (t : Data) (r : Role) (i : ℕ) (k : Key) → key_in_role π r t i ≡ Some k → HasKeyAt π t r i (Some k)
 stands_there π t (role.OfFamily f) i k e =
-    option_and_then_some (λ (o : Placed). key_with_role π (role.OfFamily f) o.value) (slice_get (objects f t) i) k e (λ o stands key. record { object = o; stands = stands; key = key })
-stands_there π t role.Election i k e = option_and_then_some (λ (o : Placed). key_of π o.value) (slice_get (elections t) i) k e (λ o stands key. record { object = o; stands = stands; key = key })
+    option_and_then_some (λ (o : Placed). key_with_role π (role.OfFamily f) o.value) (slice_get (objects f t) i) k e
+    (λ o stands key. record { object = o; stands = stands; key = key })
+stands_there π t role.Election i k e = option_and_then_some (λ (o : Placed). key_of π o.value) (slice_get (elections t) i) k e
+    (λ o stands key. record { object = o; stands = stands; key = key })
 stands_there π t r i k e = absurd (cc e)
 
 -- the key of the election that holds an object, by the position of the election
@@ -274,7 +298,8 @@ pub kept : (π : Preference) (f : Family) (d : Data) → has_keys f ≡ true →
 kept π f d keyed = rw keyed refl
 
 -- the object of a key that a reference names stands in its family
-named_stands : (π : Preference) (t : Data) (f : Family) (id : List ℕ) (k : Key) → has_keys f ≡ true → key_named π t f id ≡ Some k → (i : ℕ) × HasKeyAt π t (role.OfFamily f) i (Some k)
+named_stands : (π : Preference) (t : Data) (f : Family) (id : List ℕ) (k : Key) → has_keys f ≡ true → key_named π t f id ≡ Some k → (i : ℕ)
+    × HasKeyAt π t (role.OfFamily f) i (Some k)
 named_stands π t f id k keyed e =
     option_and_then_some (key_of π) (owner t f id) k e (λ d is key.
     let o = option_map-Some (λ (x : Placed). x.value) (owner_at t f id) d is in
@@ -283,7 +308,8 @@ named_stands π t f id k keyed e =
 
 module _ (a b : Judged) (side : ComparedReport) where
   -- a key that a value names is known
-  pub value_known : (f : Family) (text : Option (List ℕ)) → has_keys f ≡ true → IsKnown a b (role.OfFamily f) (option_and_then (key_named (on_side side a b).prefer (view (on_side side a b).tree) f) text)
+  pub value_known : (f : Family) (text : Option (List ℕ)) → has_keys f ≡ true
+      → IsKnown a b (role.OfFamily f) (option_and_then (key_named (on_side side a b).prefer (view (on_side side a b).tree) f) text)
   value_known f None keyed k e = cc
   value_known f (Some id) keyed k e =
       let stands = named_stands (on_side side a b).prefer (view (on_side side a b).tree) f id k keyed e in
@@ -294,27 +320,34 @@ module _ (a b : Judged) (side : ComparedReport) where
   holder_known r i k e =
       option_and_then_some (election_key_in (on_side side a b).prefer (view (on_side side a b).tree)) (holder_in r (view (on_side side a b).tree) i) k
       (sym (holder_from (on_side side a b).prefer r (view (on_side side a b).tree) i) ∙ e)
-      (λ held is key. known_on a b side role.Election held (Some k) (stands_there (on_side side a b).prefer (view (on_side side a b).tree) role.Election held k key))
+      (λ held is key. known_on a b side role.Election held (Some k)
+      (stands_there (on_side side a b).prefer (view (on_side side a b).tree) role.Election held k key))
 
 -- ---- comparing them
 
 -- a value names the common rank of the key that it names
 pub value_named : (a b : Judged) (side : ComparedReport) (f : Family) (text : Option (List ℕ))
-    → option_and_then (rank_with_id a b side f) text ≡ option_map (rank_of_key a b (role.OfFamily f)) (option_and_then (key_named (on_side side a b).prefer (view (on_side side a b).tree) f) text)
+    → option_and_then (rank_with_id a b side f) text ≡ option_map (rank_of_key a b (role.OfFamily f))
+    (option_and_then (key_named (on_side side a b).prefer (view (on_side side a b).tree) f) text)
 value_named a b side f None = refl
 value_named a b side f (Some id) = refl
 
 -- the common ranks of what two references name tell whether it has one key
-pub values_decide : (a b : Judged) (f : Family) → has_keys f ≡ true → (one other : Option (List ℕ)) (m n : Option ℕ) (answer : Bool) → m ≡ option_and_then (rank_with_id a b Left f) one → n ≡ option_and_then (rank_with_id a b Right f) other
-    → answer ≡ option_eq ◌==◌ m n → Decides answer (option_and_then (key_named a.prefer (view a.tree) f) one) (option_and_then (key_named b.prefer (view b.tree) f) other)
+pub values_decide : (a b : Judged) (f : Family) → has_keys f ≡ true → (one other : Option (List ℕ)) (m n : Option ℕ) (answer : Bool)
+    → m ≡ option_and_then (rank_with_id a b Left f) one → n ≡ option_and_then (rank_with_id a b Right f) other
+    → answer ≡ option_eq ◌==◌ m n → Decides answer (option_and_then (key_named a.prefer (view a.tree) f) one)
+    (option_and_then (key_named b.prefer (view b.tree) f) other)
 values_decide a b f keyed one other m n answer mine its is =
     decides_as (is ∙ ap₂ (option_eq ◌==◌) (mine ∙ value_named a b Left f one) (its ∙ value_named a b Right f other)) refl refl
     (ranks_decide a b (role.OfFamily f) (option_and_then (key_named a.prefer (view a.tree) f) one) (option_and_then (key_named b.prefer (view b.tree) f) other)
     (value_known a b Left f one keyed) (value_known a b Right f other keyed))
 
 -- so do those of the elections that hold two objects
-pub holders_decide : (a b : Judged) (r : Role) (i j : ℕ) (m n : Option ℕ) (answer : Bool) → m ≡ option_map (rank_of_key a b role.Election) (holder_key_in a.prefer r (view a.tree) i)
-    → n ≡ option_map (rank_of_key a b role.Election) (holder_key_in b.prefer r (view b.tree) j) → answer ≡ option_eq ◌==◌ m n → Decides answer (holder_key_in a.prefer r (view a.tree) i) (holder_key_in b.prefer r (view b.tree) j)
+pub holders_decide : (a b : Judged) (r : Role) (i j : ℕ) (m n : Option ℕ) (answer : Bool) → m ≡ option_map (rank_of_key a b role.Election)
+    (holder_key_in a.prefer r (view a.tree) i)
+    → n ≡ option_map (rank_of_key a b role.Election) (holder_key_in b.prefer r (view b.tree) j) → answer ≡ option_eq ◌==◌ m n
+    → Decides answer (holder_key_in a.prefer r (view a.tree) i) (holder_key_in b.prefer r (view b.tree) j)
 holders_decide a b r i j m n answer mine its is =
     decides_as (is ∙ ap₂ (option_eq ◌==◌) mine its) refl refl
-    (ranks_decide a b role.Election (holder_key_in a.prefer r (view a.tree) i) (holder_key_in b.prefer r (view b.tree) j) (holder_known a b Left r i) (holder_known a b Right r j))
+    (ranks_decide a b role.Election (holder_key_in a.prefer r (view a.tree) i) (holder_key_in b.prefer r (view b.tree) j) (holder_known a b Left r i)
+    (holder_known a b Right r j))

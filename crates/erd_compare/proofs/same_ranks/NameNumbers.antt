@@ -1,5 +1,14 @@
 -- The positions of keys that are added to a list one after another, each once.
-use Rattle.erd_compare.proofs.Common.{◌≡◌, ℕ, ◌+◌, ◌≤◌, Bool, true, false, cond, not, ◌||◌, List, [], ◌∷◌, ◌++◌, map, length, drop, slice_get, Some, None, Option, option_map, filter_map, is_eq, Ordering, sym, refl, ap, ◌∙◌, subst, ap₂, inl, inr, append-nil, arith, tied_itself, map-append, CmpEqualImpliesEq, Equal-is, IsTotalOrder, cons_option, list_any, position_or_len, eq_by_cmp, In, eqb, drop_all, option_and_then, AllByRecursion, Data, view, Family, family, Role, role, In-from_contains, all_weakened, Judged, has_keys, rank_of, NameParts, without_keys, numbered_parts, Placed, objects, numbered_selections, family_chosen, ranked_name, PlacedName, ranked_selection_in, name_of, Key, role_of_name, ranks_in_name, name_by_ranks, name_by_ranks_of, ranks_told, name_told, rank_of_key, common_rank_of, HasKeyAt, on_side, AreCommonByRank, CommonRanks, ComparedReport, position_of, RankedParts, ◌==◌, fun_ext, numbered_name_cmp, has_id, owner_at, owner, name_named, option_and_then_some, option_eq, find-Some, option_map-Some, in_at, numbered_name_cmp_total, numbered_name_cmp_exact, name_eq, names_on, names_of_both, number_of_name, number_of_selection, numbers_on, AreNameNumbers, Decides, Left, Right}
+use Rattle.erd_compare.proofs.Common.{◌≡◌, ℕ, ◌+◌, ◌≤◌, Bool, true, false, cond, not, ◌||◌, List, [], ◌∷◌, ◌++◌, map, length, drop, slice_get, Some, None}
+use Rattle.erd_compare.proofs.Common.{Option, option_map, filter_map, is_eq, Ordering, sym, refl, ap, ◌∙◌, subst, ap₂, inl, inr, append-nil, arith, tied_itself}
+use Rattle.erd_compare.proofs.Common.{map-append, CmpEqualImpliesEq, Equal-is, IsTotalOrder, cons_option, list_any, position_or_len, eq_by_cmp, In, eqb}
+use Rattle.erd_compare.proofs.Common.{drop_all, option_and_then, AllByRecursion, Data, view, Family, family, Role, role, In-from_contains, all_weakened, Judged}
+use Rattle.erd_compare.proofs.Common.{has_keys, rank_of, NameParts, without_keys, numbered_parts, Placed, objects, numbered_selections, family_chosen}
+use Rattle.erd_compare.proofs.Common.{ranked_name, PlacedName, ranked_selection_in, name_of, Key, role_of_name, ranks_in_name, name_by_ranks, name_by_ranks_of}
+use Rattle.erd_compare.proofs.Common.{ranks_told, name_told, rank_of_key, common_rank_of, HasKeyAt, on_side, AreCommonByRank, CommonRanks, ComparedReport}
+use Rattle.erd_compare.proofs.Common.{position_of, RankedParts, ◌==◌, fun_ext, numbered_name_cmp, has_id, owner_at, owner, name_named, option_and_then_some}
+use Rattle.erd_compare.proofs.Common.{option_eq, find-Some, option_map-Some, in_at, numbered_name_cmp_total, numbered_name_cmp_exact, name_eq, names_on}
+use Rattle.erd_compare.proofs.Common.{names_of_both, number_of_name, number_of_selection, numbers_on, AreNameNumbers, Decides, Left, Right}
 use Rattle.std.proofs.lemmas.List.Folds.{list_any-append, position_or_len_push}
 use Rattle.std.proofs.Common.{append_assoc}
 use Rattle.std.proofs.lemmas.Bool.Decides.{nat_tests}
@@ -25,7 +34,8 @@ module _ {K : Type 0} (p : K → Bool) where
   position_kept [] ms h = cc
   position_kept (k ∷ ks) ms h = at (p k) refl (λ later. position_kept ks ms later)
     where
-      at : (b : Bool) → p k ≡ b → (list_any p ks ≡ true → position_or_len p (ks ++ ms) ≡ position_or_len p ks) → cond (not b) (1 + position_or_len p (ks ++ ms)) 0 ≡ cond (not b) (1 + position_or_len p ks) 0
+      at : (b : Bool) → p k ≡ b → (list_any p ks ≡ true → position_or_len p (ks ++ ms) ≡ position_or_len p ks)
+          → cond (not b) (1 + position_or_len p (ks ++ ms)) 0 ≡ cond (not b) (1 + position_or_len p ks) 0
       at true e rest = refl
       at false e rest = ap (λ n. 1 + n) (rest (later_any k ks e h))
 
@@ -40,7 +50,8 @@ module _ {K : Type 0} (cmp : K → K → Ordering) (total : IsTotalOrder cmp) (e
   one_key k l h = exact k l ((Equal-is (cmp k l)).0 h)
 
   -- keys that are in the list and have one position are one
-  pub one_position : (k l : K) (ks : List K) → list_any (eq k) ks ≡ true → list_any (eq l) ks ≡ true → position_or_len (eq k) ks ≡ position_or_len (eq l) ks → k ≡ l
+  pub one_position : (k l : K) (ks : List K) → list_any (eq k) ks ≡ true → list_any (eq l) ks ≡ true → position_or_len (eq k) ks
+      ≡ position_or_len (eq l) ks → k ≡ l
   one_position k l [] mine its same = cc
   one_position k l (m ∷ ms) mine its same = at (eq k m) refl (eq l m) refl same (λ here there e. one_position k l ms here there e)
     where
@@ -92,7 +103,8 @@ module _ {K : Type 0} (cmp : K → K → Ordering) (total : IsTotalOrder cmp) (e
       at false e = record {
         any = list_any-append (eq k) ks (k ∷ []) ∙ (ap (λ b. list_any (eq k) ks || b) own ∙ or_own (list_any (eq k) ks));
         place = position_or_len_push (eq k) ks k
-            ∙ (ap (λ b. cond (eqb (position_or_len (eq k) ks) (length ks)) (length ks + cond b 0 1) (position_or_len (eq k) ks)) (itself k) ∙ pushed (position_or_len (eq k) ks) (length ks));
+            ∙ (ap (λ b. cond (eqb (position_or_len (eq k) ks) (length ks)) (length ks + cond b 0 1) (position_or_len (eq k) ks)) (itself k)
+            ∙ pushed (position_or_len (eq k) ks) (length ks));
       }
 
   -- each key that is added is in the list
@@ -110,7 +122,8 @@ module _ {K : Type 0} (cmp : K → K → Ordering) (total : IsTotalOrder cmp) (e
     position_in ks o = option_map (λ k. position_or_len (eq k) ks) (told o)
 
     -- the positions stay if more keys are added
-    pub positions_stay : (os : List O) (ks ls : List K) → ((o : O) (k : K) → In o os → told o ≡ Some k → list_any (eq k) ks ≡ true) → map (position_in ks) os ≡ map (position_in (insert_all eq ks ls)) os
+    pub positions_stay : (os : List O) (ks ls : List K) → ((o : O) (k : K) → In o os → told o ≡ Some k → list_any (eq k) ks ≡ true) → map (position_in ks) os
+        ≡ map (position_in (insert_all eq ks ls)) os
     positions_stay [] ks ls h = refl
     positions_stay (o ∷ os) ks ls h = ap₂ ◌∷◌ (at (told o) refl) (positions_stay os ks ls (λ x k i e. h x k (inr i) e))
       where
@@ -124,12 +137,15 @@ module _ {K : Type 0} (cmp : K → K → Ordering) (total : IsTotalOrder cmp) (e
       pub positions : ns ++ map (position_in (insert_all eq old (filter_map told all))) left ≡ map (position_in (insert_all eq old (filter_map told all))) all
 
     -- the object at the next position, with its key, if it has one, which is added
-    pub next : (old ks ks' : List K) (all : List O) (i : ℕ) (o : O) (n : Option ℕ) (ns ns' : List (Option ℕ)) → slice_get all i ≡ Some o → IsAdding old all (drop i all) ks ns → ns' ≡ ns ++ n ∷ []
-        → (y : Option K) → told o ≡ y → ks' ≡ insert_all eq ks (cons_option y []) → n ≡ option_map (λ k. position_or_len (eq k) ks) y → IsAdding old all (drop (i + 1) all) ks' ns'
+    pub next : (old ks ks' : List K) (all : List O) (i : ℕ) (o : O) (n : Option ℕ) (ns ns' : List (Option ℕ)) → slice_get all i ≡ Some o
+        → IsAdding old all (drop i all) ks ns → ns' ≡ ns ++ n ∷ []
+        → (y : Option K) → told o ≡ y → ks' ≡ insert_all eq ks (cons_option y []) → n ≡ option_map (λ k. position_or_len (eq k) ks) y
+        → IsAdding old all (drop (i + 1) all) ks' ns'
     next old ks ks' all i o n ns ns' here h pushed y is added number = record {
       keys = ap (λ xs. insert_all eq xs (filter_map told left)) added ∙ one_more;
       positions = ap (λ xs. xs ++ map (position_in all_keys) left) pushed ∙ (append_assoc ns (n ∷ []) (map (position_in all_keys) left)
-          ∙ (ap (λ m. ns ++ m ∷ map (position_in all_keys) left) (number ∙ (place y one_more ∙ ap (option_map (λ k. position_or_len (eq k) all_keys)) (sym is))) ∙ step.positions));
+          ∙ (ap (λ m. ns ++ m ∷ map (position_in all_keys) left) (number ∙ (place y one_more ∙ ap (option_map (λ k. position_or_len (eq k) all_keys)) (sym is)))
+          ∙ step.positions));
     }
       where
         left : List O
@@ -148,12 +164,17 @@ module _ {K : Type 0} (cmp : K → K → Ordering) (total : IsTotalOrder cmp) (e
         one_more : insert_all eq (insert_all eq ks (cons_option y [])) (filter_map told left) ≡ all_keys
         one_more = in_turn y (filter_map told left) ∙ (ap (λ z. insert_all eq ks (cons_option z (filter_map told left))) (sym is) ∙ step.keys)
 
-        place : (y : Option K) → insert_all eq (insert_all eq ks (cons_option y [])) (filter_map told left) ≡ all_keys → option_map (λ k. position_or_len (eq k) ks) y ≡ option_map (λ k. position_or_len (eq k) all_keys) y
+        place : (y : Option K) → insert_all eq (insert_all eq ks (cons_option y [])) (filter_map told left) ≡ all_keys
+            → option_map (λ k. position_or_len (eq k) ks) y ≡ option_map (λ k. position_or_len (eq k) all_keys) y
         place None e = refl
-        place (Some k) e = ap Some (sym (ap (position_or_len (eq k)) (sym e) ∙ (stands_all k (filter_map told left) (insert_key eq ks k) (position_or_len (eq k) ks) (stands_added k ks)).place))
+        place (Some k) e =
+            ap Some (sym
+            (ap (position_or_len (eq k)) (sym e)
+            ∙ (stands_all k (filter_map told left) (insert_key eq ks k) (position_or_len (eq k) ks) (stands_added k ks)).place))
 
     -- no object is left
-    pub none_left : (old ks : List K) (all : List O) (i : ℕ) (ns : List (Option ℕ)) → length all ≤ i → IsAdding old all (drop i all) ks ns → ns ≡ map (position_in ks) all
+    pub none_left : (old ks : List K) (all : List O) (i : ℕ) (ns : List (Option ℕ)) → length all ≤ i → IsAdding old all (drop i all) ks ns
+        → ns ≡ map (position_in ks) all
     none_left old ks all i ns past h =
         let ended = subst (λ left. IsAdding old all left ks ns) (drop_all i all past) h in
         sym (append-nil ns) ∙ (ended.positions ∙ ap (λ xs. map (position_in xs) all) (sym ended.keys))
@@ -183,21 +204,25 @@ module _ {A K : Type 0} (see : A → K) (eq : K → K → Bool) (x : A) where
 
 module _ (a b : Judged) where
   -- the object with a key of a name stands at a position
-  key_stands : (side : ComparedReport) (f : Family) → has_keys f ≡ true → (key : Key) → IsKeyIn (prefer_on a b side) (tree_on a b side) f key → (i : ℕ) × HasKeyAt (prefer_on a b side) (tree_on a b side) (role.OfFamily f) i (Some key)
+  key_stands : (side : ComparedReport) (f : Family) → has_keys f ≡ true → (key : Key) → IsKeyIn (prefer_on a b side) (tree_on a b side) f key → (i : ℕ)
+      × HasKeyAt (prefer_on a b side) (tree_on a b side) (role.OfFamily f) i (Some key)
   key_stands side f keyed key h =
       let place = position_of (objects f (tree_on a b side)) h.owner (In-from_contains h.owner (objects f (tree_on a b side)) h.stands) in
       (place.0, record { object = h.owner; stands = place.1; key = kept (prefer_on a b side) f h.owner.value keyed ∙ h.keyed })
 
-  key_known : (side : ComparedReport) (f : Family) → has_keys f ≡ true → (key : Key) → IsKeyIn (prefer_on a b side) (tree_on a b side) f key → Stands (Some key) (both_keys a b (role.OfFamily f))
+  key_known : (side : ComparedReport) (f : Family) → has_keys f ≡ true → (key : Key) → IsKeyIn (prefer_on a b side) (tree_on a b side) f key
+      → Stands (Some key) (both_keys a b (role.OfFamily f))
   key_known side f keyed key h = let at = key_stands side f keyed key h in known_on a b side (role.OfFamily f) at.0 (Some key) at.1
 
   -- each key of the name is known
-  keys_known : (side : ComparedReport) (n : NameParts) → HasKeysIn (prefer_on a b side) (tree_on a b side) n → AllByRecursion (λ k. Stands (Some k) (both_keys a b (role_of_name n))) n.keys
+  keys_known : (side : ComparedReport) (n : NameParts) → HasKeysIn (prefer_on a b side) (tree_on a b side) n
+      → AllByRecursion (λ k. Stands (Some k) (both_keys a b (role_of_name n))) n.keys
   keys_known side n known =
       all_weakened (IsKeyIn (prefer_on a b side) (tree_on a b side) (family_chosen n.class)) (λ k. Stands (Some k) (both_keys a b (role_of_name n))) n.keys
       (λ k h. key_known side (family_chosen n.class) (chosen_keyed n.class) k h) known
 
-  one_keys : (r : Role) (ks ls : List Key) → AllByRecursion (λ k. Stands (Some k) (both_keys a b r)) ks → AllByRecursion (λ k. Stands (Some k) (both_keys a b r)) ls → map (rank_of_key a b r) ks ≡ map (rank_of_key a b r) ls → ks ≡ ls
+  one_keys : (r : Role) (ks ls : List Key) → AllByRecursion (λ k. Stands (Some k) (both_keys a b r)) ks
+      → AllByRecursion (λ k. Stands (Some k) (both_keys a b r)) ls → map (rank_of_key a b r) ks ≡ map (rank_of_key a b r) ls → ks ≡ ls
   one_keys r [] [] mine its e = refl
   one_keys r (k ∷ ks) (l ∷ ls) mine its e =
       let first : rank_of_key a b r k ≡ rank_of_key a b r l = cc in
@@ -217,7 +242,8 @@ module _ (a b : Judged) where
   }
 
   -- names are equal if they are equal with common ranks in place of their keys
-  pub from_ranks : (s r : ComparedReport) (m n : NameParts) → HasKeysIn (prefer_on a b s) (tree_on a b s) m → HasKeysIn (prefer_on a b r) (tree_on a b r) n → name_by_ranks a b m ≡ name_by_ranks a b n → m ≡ n
+  pub from_ranks : (s r : ComparedReport) (m n : NameParts) → HasKeysIn (prefer_on a b s) (tree_on a b s) m → HasKeysIn (prefer_on a b r) (tree_on a b r) n
+      → name_by_ranks a b m ≡ name_by_ranks a b n → m ≡ n
   from_ranks s r m n mine its same =
       let rest : without_keys m ≡ without_keys n = ap (λ (q : RankedParts). q.name) same in
       let role : role_of_name m ≡ role_of_name n = ap role_of_name rest in
@@ -231,17 +257,21 @@ module _ (a b : Judged) where
   module _ (common : CommonRanks) (are : AreCommonByRank a b common) (side : ComparedReport) where
     -- the common rank at the rank of a key is that of the key
     at_rank_of : (f : Family) → has_keys f ≡ true → (key : Key) → IsKeyIn (prefer_on a b side) (tree_on a b side) f key
-        → common_rank_of common side (role.OfFamily f) (rank_of (prefer_on a b side) (tree_on a b side) f (Some key)) ≡ Some (rank_of_key a b (role.OfFamily f) key)
+        → common_rank_of common side (role.OfFamily f) (rank_of (prefer_on a b side) (tree_on a b side) f (Some key))
+        ≡ Some (rank_of_key a b (role.OfFamily f) key)
     at_rank_of f keyed key h =
         let at = key_stands side f keyed key h in
-        ap (common_rank_of common side (role.OfFamily f)) (family_rank (prefer_on a b side) (tree_on a b side) f (Some key) keyed) ∙ are side (role.OfFamily f) keyed at.0 (Some key) at.1
+        ap (common_rank_of common side (role.OfFamily f)) (family_rank (prefer_on a b side) (tree_on a b side) f (Some key) keyed)
+        ∙ are side (role.OfFamily f) keyed at.0 (Some key) at.1
 
     all_ranked : (f : Family) → has_keys f ≡ true → (keys : List Key) → AllByRecursion (IsKeyIn (prefer_on a b side) (tree_on a b side) f) keys
-        → filter_map (common_rank_of common side (role.OfFamily f)) (map (λ key. rank_of (prefer_on a b side) (tree_on a b side) f (Some key)) keys) ≡ map (rank_of_key a b (role.OfFamily f)) keys
+        → filter_map (common_rank_of common side (role.OfFamily f)) (map (λ key. rank_of (prefer_on a b side) (tree_on a b side) f (Some key)) keys)
+        ≡ map (rank_of_key a b (role.OfFamily f)) keys
     all_ranked f keyed [] h = refl
     all_ranked f keyed (k ∷ ks) h = ap₂ cons_option (at_rank_of f keyed k h.0) (all_ranked f keyed ks h.1)
 
-    ranks_in : (n : NameParts) → HasKeysIn (prefer_on a b side) (tree_on a b side) n → ranks_told common side (ranked_name (prefer_on a b side) (tree_on a b side) n) ≡ ranks_in_name a b n
+    ranks_in : (n : NameParts) → HasKeysIn (prefer_on a b side) (tree_on a b side) n
+        → ranks_told common side (ranked_name (prefer_on a b side) (tree_on a b side) n) ≡ ranks_in_name a b n
     ranks_in n known = all_ranked (family_chosen n.class) (chosen_keyed n.class) n.keys known
 
     -- so the name that they tell has the common ranks of its keys
@@ -249,7 +279,8 @@ module _ (a b : Judged) where
     name_is_told d = at (name_of (prefer_on a b side) (tree_on a b side) d) (λ n is. known_name (prefer_on a b side) (tree_on a b side) d n is)
       where
         at : (o : Option NameParts) → ((n : NameParts) → o ≡ Some n → HasKeysIn (prefer_on a b side) (tree_on a b side) n)
-            → option_map (λ n. numbered_parts n (ranks_told common side (ranked_name (prefer_on a b side) (tree_on a b side) n))) o ≡ option_map (name_by_ranks a b) o
+            → option_map (λ n. numbered_parts n (ranks_told common side (ranked_name (prefer_on a b side) (tree_on a b side) n))) o
+            ≡ option_map (name_by_ranks a b) o
         at None known = refl
         at (Some n) known = ap (λ ns. Some (numbered_parts n ns)) (ranks_in n (known n refl))
 
@@ -260,16 +291,20 @@ module _ (a : Judged) (common : CommonRanks) (side : ComparedReport) where
   told_name s = numbered_parts s.1.name (ranks_told common side s.1)
 
   -- the name of the selection at a position, as its ranks tell it
-  pub told_at : (i : ℕ) → option_map told_name (ranked_selection_in a.prefer (view a.tree) i) ≡ option_and_then (λ (o : Placed). name_told common side a o.value) (slice_get (objects family.Selection (view a.tree)) i)
-  told_at i = by (slice_get (numbered_selections (view a.tree)) i) ∙ ap (option_and_then (λ (o : Placed). name_told common side a o.value)) (numbered_at (view a.tree) i)
+  pub told_at : (i : ℕ) → option_map told_name (ranked_selection_in a.prefer (view a.tree) i)
+      ≡ option_and_then (λ (o : Placed). name_told common side a o.value) (slice_get (objects family.Selection (view a.tree)) i)
+  told_at i = by (slice_get (numbered_selections (view a.tree)) i) ∙ ap (option_and_then (λ (o : Placed). name_told common side a o.value))
+      (numbered_at (view a.tree) i)
     where
       of_name : (k : ℕ) (o : Option NameParts)
-          → option_map told_name (option_map (λ (s : ℕ × NameParts). (s.0, ranked_name a.prefer (view a.tree) s.1)) (option_map (λ n. (k, n)) o)) ≡ option_map (λ n. numbered_parts n (ranks_told common side (ranked_name a.prefer (view a.tree) n))) o
+          → option_map told_name (option_map (λ (s : ℕ × NameParts). (s.0, ranked_name a.prefer (view a.tree) s.1)) (option_map (λ n. (k, n)) o))
+          ≡ option_map (λ n. numbered_parts n (ranks_told common side (ranked_name a.prefer (view a.tree) n))) o
       of_name k None = refl
       of_name k (Some n) = refl
 
       by : (s : Option (ℕ × Placed))
-          → option_map told_name (option_map (λ (x : ℕ × NameParts). (x.0, ranked_name a.prefer (view a.tree) x.1)) (option_and_then (λ (x : ℕ × Placed). option_map (λ n. (x.0, n)) (name_of a.prefer (view a.tree) x.1.value)) s))
+          → option_map told_name (option_map (λ (x : ℕ × NameParts). (x.0, ranked_name a.prefer (view a.tree) x.1))
+          (option_and_then (λ (x : ℕ × Placed). option_map (λ n. (x.0, n)) (name_of a.prefer (view a.tree) x.1.value)) s))
           ≡ option_and_then (λ (o : Placed). name_told common side a o.value) (option_map (λ (x : ℕ × Placed). x.1) s)
       by None = refl
       by (Some s) = of_name s.0 (name_of a.prefer (view a.tree) s.1.value)
@@ -303,12 +338,17 @@ module _ (a b : Judged) where
     names_told : (side : ComparedReport) → filter_map (told side) (selections_on side) ≡ names_on a b side
     names_told side = ap (λ f. filter_map f (selections_on side)) (fun_ext (is_told side))
 
-    numbers_told : (side : ComparedReport) (ks : List RankedParts) → ks ≡ names_of_both a b → map (λ o. place_among ks (told side o)) (selections_on side) ≡ map (λ o. number_of_selection a b side o.value) (selections_on side)
+    numbers_told : (side : ComparedReport) (ks : List RankedParts) → ks ≡ names_of_both a b → map (λ o. place_among ks (told side o)) (selections_on side)
+        ≡ map (λ o. number_of_selection a b side o.value) (selections_on side)
     numbers_told side ks both =
-        ap (λ f. map f (selections_on side)) (fun_ext (λ (o : Placed). ap (place_among ks) (is_told side o) ∙ (ap (λ ls. place_among ls (name_by_ranks_of a b side o.value)) both ∙ by_names side o.value)))
+        ap (λ f. map f (selections_on side))
+        (fun_ext (λ (o : Placed). ap (place_among ks) (is_told side o)
+        ∙ (ap (λ ls. place_among ls (name_by_ranks_of a b side o.value)) both ∙ by_names side o.value)))
 
-    pub are_name_numbers : (js ks ls : List RankedParts) (n : NameNumbers) → js ≡ [] → ks ≡ insert_all name_eq js (filter_map (told Left) (selections_on Left)) → ls ≡ insert_all name_eq ks (filter_map (told Right) (selections_on Right))
-        → n.left.items ≡ map (λ o. place_among ks (told Left o)) (selections_on Left) → n.right.items ≡ map (λ o. place_among ls (told Right o)) (selections_on Right) → AreNameNumbers a b n
+    pub are_name_numbers : (js ks ls : List RankedParts) (n : NameNumbers) → js ≡ [] → ks ≡ insert_all name_eq js (filter_map (told Left) (selections_on Left))
+        → ls ≡ insert_all name_eq ks (filter_map (told Right) (selections_on Right))
+        → n.left.items ≡ map (λ o. place_among ks (told Left o)) (selections_on Left) → n.right.items ≡ map (λ o. place_among ls (told Right o))
+        (selections_on Right) → AreNameNumbers a b n
     are_name_numbers js ks ls n none begun both mine its side = at side
       where
         first : ks ≡ insert_all name_eq [] (filter_map (told Left) (selections_on Left))
@@ -322,7 +362,8 @@ module _ (a b : Judged) where
 
         stays : map (λ o. place_among ks (told Left o)) (selections_on Left) ≡ map (λ o. place_among ls (told Left o)) (selections_on Left)
         stays =
-            positions_stay numbered_name_cmp numbered_name_cmp_total numbered_name_cmp_exact (told Left) (selections_on Left) ks (filter_map (told Right) (selections_on Right))
+            positions_stay numbered_name_cmp numbered_name_cmp_total numbered_name_cmp_exact (told Left) (selections_on Left) ks
+            (filter_map (told Right) (selections_on Right))
             (λ o q inside is. subst (λ xs. list_any (name_eq q) xs ≡ true) (sym first)
             (added_any numbered_name_cmp numbered_name_cmp_total numbered_name_cmp_exact q (filter_map (told Left) (selections_on Left)) []
             (In-filter_map (told Left) o q (selections_on Left) inside is)))
@@ -344,20 +385,25 @@ module _ (a b : Judged) where
       let left = insert_all name_eq [] (names_on a b Left) in
       (stands_all numbered_name_cmp numbered_name_cmp_total numbered_name_cmp_exact q (names_on a b Right) left (position_or_len (name_eq q) left)
       (record { any = added_any numbered_name_cmp numbered_name_cmp_total numbered_name_cmp_exact q (names_on a b Left) [] h; place = refl })).any
-  listed_on Right q h = added_any numbered_name_cmp numbered_name_cmp_total numbered_name_cmp_exact q (names_on a b Right) (insert_all name_eq [] (names_on a b Left)) h
+  listed_on Right q h = added_any numbered_name_cmp numbered_name_cmp_total numbered_name_cmp_exact q (names_on a b Right)
+      (insert_all name_eq [] (names_on a b Left)) h
 
-  pub selection_named : (side : ComparedReport) (o : Placed) (n : NameParts) → In o (selections_on side) → name_of (prefer_on a b side) (tree_on a b side) o.value ≡ Some n → IsNameOn side n
+  pub selection_named : (side : ComparedReport) (o : Placed) (n : NameParts) → In o (selections_on side)
+      → name_of (prefer_on a b side) (tree_on a b side) o.value ≡ Some n → IsNameOn side n
   selection_named side o n inside is = record {
     known = known_name (prefer_on a b side) (tree_on a b side) o.value n is;
     listed = listed_on side (name_by_ranks a b n)
-        (In-filter_map (λ (x : Placed). name_by_ranks_of a b side x.value) o (name_by_ranks a b n) (selections_on side) inside (ap (option_map (name_by_ranks a b)) is));
+        (In-filter_map (λ (x : Placed). name_by_ranks_of a b side x.value) o (name_by_ranks a b n) (selections_on side) inside
+        (ap (option_map (name_by_ranks a b)) is));
   }
 
   -- so is one that a reference names
-  pub reference_named : (side : ComparedReport) (text : Option (List ℕ)) (n : NameParts) → option_and_then (name_named (prefer_on a b side) (tree_on a b side)) text ≡ Some n → IsNameOn side n
+  pub reference_named : (side : ComparedReport) (text : Option (List ℕ)) (n : NameParts) → option_and_then (name_named (prefer_on a b side) (tree_on a b side))
+      text ≡ Some n → IsNameOn side n
   reference_named side text n h =
       let t = tree_on a b side in
-      option_and_then_some (name_named (prefer_on a b side) t) text n h (λ id is there. option_and_then_some (name_of (prefer_on a b side) t) (owner t family.Selection id) n there (λ d at named.
+      option_and_then_some (name_named (prefer_on a b side) t) text n h
+      (λ id is there. option_and_then_some (name_of (prefer_on a b side) t) (owner t family.Selection id) n there (λ d at named.
       let o = option_map-Some (λ (x : Placed). x.value) (owner_at t family.Selection id) d at in
       let found = position_of (selections_on side) o.0 (find-Some (λ (x : Placed). has_id id x.value) (selections_on side) o.0 o.1).0 in
       selection_named side o.0 n (in_at (selections_on side) found.0 o.0 found.1) (ap (name_of (prefer_on a b side) t) o.2 ∙ named)))
@@ -365,7 +411,8 @@ module _ (a b : Judged) where
   pub one_name : (s r : ComparedReport) (m n : NameParts) → IsNameOn s m → IsNameOn r n → number_of_name a b m ≡ number_of_name a b n → m ≡ n
   one_name s r m n mine its same =
       from_ranks a b s r m n mine.known its.known
-      (one_position numbered_name_cmp numbered_name_cmp_total numbered_name_cmp_exact (name_by_ranks a b m) (name_by_ranks a b n) (names_of_both a b) mine.listed its.listed same)
+      (one_position numbered_name_cmp numbered_name_cmp_total numbered_name_cmp_exact (name_by_ranks a b m) (name_by_ranks a b n) (names_of_both a b)
+      mine.listed its.listed same)
 
   -- ---- comparing them
 

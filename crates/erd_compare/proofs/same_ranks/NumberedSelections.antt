@@ -1,12 +1,16 @@
 -- The selections of a contest by the numbers of their names: numbers are equal if and only if the names are. So two contests
 -- mean the same by numbers if and only if they do by names.
-use Rattle.erd_compare.proofs.Common.{◌≡◌, ℕ, Bool, true, cond, List, [], ◌∷◌, ◌==◌, Some, None, Option, option_map, find, option_and_then, is_eq, sym, refl, ap, ◌∙◌, subst, inl, inr, fun_ext, Decides-eqb, tied_itself, both_ways, option_cmp, Data, view, In, Judged, NameParts, selection_record, selection_map, name_of, name_cmp, name_cmp_total, option_eq, find-Some, options_exact, SelectionRecord, number_of_name, number_of_selection, Decides, on_side, has_number, numbered_map, ComparedReport, Left, Right}
+use Rattle.erd_compare.proofs.Common.{◌≡◌, ℕ, Bool, true, cond, List, [], ◌∷◌, ◌==◌, Some, None, Option, option_map, find, option_and_then, is_eq, sym, refl}
+use Rattle.erd_compare.proofs.Common.{ap, ◌∙◌, subst, inl, inr, fun_ext, Decides-eqb, tied_itself, both_ways, option_cmp, Data, view, In, Judged, NameParts}
+use Rattle.erd_compare.proofs.Common.{selection_record, selection_map, name_of, name_cmp, name_cmp_total, option_eq, find-Some, options_exact, SelectionRecord}
+use Rattle.erd_compare.proofs.Common.{number_of_name, number_of_selection, Decides, on_side, has_number, numbered_map, ComparedReport, Left, Right}
 use Rattle.erd_compare.proofs.same_ranks.NameNumbers.{IsNameOn, one_name}
 use Rattle.erd_meaning.proofs.orders.DistinctEntries.{equal_names}
 
 same_find : {A : Type 0} (p q : A → Bool) (xs : List A) → ((x : A) → In x xs → p x ≡ q x) → find p xs ≡ find q xs
 same_find p q [] same = refl
-same_find p q (x ∷ xs) same = ap (λ b. cond b (Some x) (find p xs)) (same x (inl refl)) ∙ ap (λ r. cond (q x) (Some x) r) (same_find p q xs (λ y i. same y (inr i)))
+same_find p q (x ∷ xs) same = ap (λ b. cond b (Some x) (find p xs)) (same x (inl refl))
+    ∙ ap (λ r. cond (q x) (Some x) r) (same_find p q xs (λ y i. same y (inr i)))
 
 module _ (a b : Judged) where
   abbrev name_on : ComparedReport → Data → Option NameParts
@@ -42,7 +46,8 @@ module _ (a b : Judged) where
   map_on side ds k = option_and_then (record_on side) (find (is_named side k) ds)
 
   -- a selection has a name that stands in a report exactly if it has its number
-  same_tests : (s r : ComparedReport) (k : NameParts) → IsNameOn a b r k → (d : Data) → ((n : NameParts) → name_on s d ≡ Some n → IsNameOn a b s n) → is_named s k d ≡ has_number a b s (number_of_name a b k) d
+  same_tests : (s r : ComparedReport) (k : NameParts) → IsNameOn a b r k → (d : Data) → ((n : NameParts) → name_on s d ≡ Some n → IsNameOn a b s n)
+      → is_named s k d ≡ has_number a b s (number_of_name a b k) d
   same_tests s r k its d mine =
       both_ways (is_named s k d) (has_number a b s (number_of_name a b k) d)
       (λ h. number_passes (number_of_selection a b s d) (number_of_name a b k) (ap (option_map (number_of_name a b)) (name_tested (name_on s d) k h)))
@@ -53,16 +58,20 @@ module _ (a b : Judged) where
       at (Some n) is h = let same : number_of_name a b n ≡ number_of_name a b k = cc in is ∙ ap Some (one_name a b s r n k (mine n is) its same)
 
   -- so the maps are the same at it
-  pub same_maps : (s r : ComparedReport) (ds : List Data) → AreNamed s ds → (k : NameParts) → IsNameOn a b r k → map_on s ds k ≡ numbered_map a b s ds (number_of_name a b k)
+  pub same_maps : (s r : ComparedReport) (ds : List Data) → AreNamed s ds → (k : NameParts) → IsNameOn a b r k → map_on s ds k
+      ≡ numbered_map a b s ds (number_of_name a b k)
   same_maps s r ds mine k its =
-      ap (option_and_then (record_on s)) (same_find (is_named s k) (has_number a b s (number_of_name a b k)) ds (λ d inside. same_tests s r k its d (mine d inside)))
+      ap (option_and_then (record_on s))
+      (same_find (is_named s k) (has_number a b s (number_of_name a b k)) ds (λ d inside. same_tests s r k its d (mine d inside)))
 
   module _ (ds es : List Data) (mine : AreNamed Left ds) (its : AreNamed Right es) where
     -- at a name of either report
-    names_at : (r : ComparedReport) (k : NameParts) → IsNameOn a b r k → numbered_map a b Left ds (number_of_name a b k) ≡ numbered_map a b Right es (number_of_name a b k) → map_on Left ds k ≡ map_on Right es k
+    names_at : (r : ComparedReport) (k : NameParts) → IsNameOn a b r k → numbered_map a b Left ds (number_of_name a b k) ≡ numbered_map a b Right es
+        (number_of_name a b k) → map_on Left ds k ≡ map_on Right es k
     names_at r k is same = same_maps Left r ds mine k is ∙ (same ∙ sym (same_maps Right r es its k is))
 
-    numbers_at : (r : ComparedReport) (k : NameParts) → IsNameOn a b r k → map_on Left ds k ≡ map_on Right es k → numbered_map a b Left ds (number_of_name a b k) ≡ numbered_map a b Right es (number_of_name a b k)
+    numbers_at : (r : ComparedReport) (k : NameParts) → IsNameOn a b r k → map_on Left ds k ≡ map_on Right es k
+        → numbered_map a b Left ds (number_of_name a b k) ≡ numbered_map a b Right es (number_of_name a b k)
     numbers_at r k is same = sym (same_maps Left r ds mine k is) ∙ (same ∙ same_maps Right r es its k is)
 
     names_same : ((q : ℕ) → numbered_map a b Left ds q ≡ numbered_map a b Right es q) → (k : NameParts) → map_on Left ds k ≡ map_on Right es k
@@ -96,13 +105,15 @@ module _ (a b : Judged) where
         by : (r : ComparedReport) → Named r q → numbered_map a b Left ds q ≡ numbered_map a b Right es q
         by r n = subst (λ x. numbered_map a b Left ds x ≡ numbered_map a b Right es x) n.2 (numbers_at r n.0 n.1 (same n.0))
 
-        at : (o : Option Data) → find (has_number a b Left q) ds ≡ o → (p : Option Data) → find (has_number a b Right q) es ≡ p → numbered_map a b Left ds q ≡ numbered_map a b Right es q
+        at : (o : Option Data) → find (has_number a b Left q) ds ≡ o → (p : Option Data) → find (has_number a b Right q) es ≡ p → numbered_map a b Left ds q
+            ≡ numbered_map a b Right es q
         at (Some d) is p other = by Left (has_its_name Left ds d q mine is)
         at None is (Some e) other = by Right (has_its_name Right es e q its other)
         at None is None other = ap (option_and_then (record_on Left)) is ∙ sym (ap (option_and_then (record_on Right)) other)
 
     -- what is decided by numbers is decided by names
-    pub maps_decide : (answer : Bool) → Decides answer (numbered_map a b Left ds) (numbered_map a b Right es) → Decides answer (selection_map a.prefer (view a.tree) ds) (selection_map b.prefer (view b.tree) es)
+    pub maps_decide : (answer : Bool) → Decides answer (numbered_map a b Left ds) (numbered_map a b Right es)
+        → Decides answer (selection_map a.prefer (view a.tree) ds) (selection_map b.prefer (view b.tree) es)
     maps_decide answer decides = (
       λ h. fun_ext (names_same (λ q. ap (λ m. m q) (decides.0 h))),
       λ same. decides.1 (fun_ext (numbered_same (λ k. ap (λ m. m k) same))),

@@ -1,6 +1,11 @@
 -- The common ranks of the keys that references name are put into a set one after another, and two such sets are equal if and
 -- only if the sets of the keys are.
-use Rattle.erd_compare.proofs.Common.{◌≡◌, ℕ, Bool, true, List, [], ◌∷◌, map, ◌==◌, Some, None, Option, option_map, IsPermutation, IsSorted, filter_map, option_and_then, nat_cmp, is_eq, Ordering, sym, refl, ap, ◌∙◌, subst, ap₂, inl, inr, fun_ext, tied_itself, nat_cmp_total, CmpEqualImpliesEq, exact_unsigned, Equal-is, IsTotalOrder, both_ways, cons_option, list_any, Data, as_str, view, Value, Family, Role, role, In, In-map, In-map_from, any_at, In-from_contains, contains_from_In, Judged, has_keys, key_cmp, key_named, keys_named, key_cmp_total, key_cmp_exact, unsigned_ties, dedup, KeySet, key_set, Key, rank_of_key, Decides, on_side, rank_with_id, list_of_ranks, rank_set, IsRankSet, ComparedReport}
+use Rattle.erd_compare.proofs.Common.{◌≡◌, ℕ, Bool, true, List, [], ◌∷◌, map, ◌==◌, Some, None, Option, option_map, IsPermutation, IsSorted, filter_map}
+use Rattle.erd_compare.proofs.Common.{option_and_then, nat_cmp, is_eq, Ordering, sym, refl, ap, ◌∙◌, subst, ap₂, inl, inr, fun_ext, tied_itself, nat_cmp_total}
+use Rattle.erd_compare.proofs.Common.{CmpEqualImpliesEq, exact_unsigned, Equal-is, IsTotalOrder, both_ways, cons_option, list_any, Data, as_str, view, Value}
+use Rattle.erd_compare.proofs.Common.{Family, Role, role, In, In-map, In-map_from, any_at, In-from_contains, contains_from_In, Judged, has_keys, key_cmp}
+use Rattle.erd_compare.proofs.Common.{key_named, keys_named, key_cmp_total, key_cmp_exact, unsigned_ties, dedup, KeySet, key_set, Key, rank_of_key, Decides}
+use Rattle.erd_compare.proofs.Common.{on_side, rank_with_id, list_of_ranks, rank_set, IsRankSet, ComparedReport}
 use Rattle.std.proofs.lemmas.List.Kept.{Contains-dedup_nat, Contains-from_dedup, IsStrictlySortedBy-dedup}
 use Rattle.std.proofs.lemmas.List.Sorted.{list_any-IsPermutation}
 use Rattle.std.proofs.lemmas.Map.Views.{Contains-from_any}
@@ -10,12 +15,14 @@ use Rattle.erd_compare.proofs.same_ranks.KeyRanks.{both_keys, one_rank, Stands, 
 -- ---- the ranks of references
 
 module _ (a b : Judged) (side : ComparedReport) (f : Family) where
-  more : (o : Option Key) (ks : List Key) → map (rank_of_key a b (role.OfFamily f)) (cons_option o ks) ≡ cons_option (option_map (rank_of_key a b (role.OfFamily f)) o) (map (rank_of_key a b (role.OfFamily f)) ks)
+  more : (o : Option Key) (ks : List Key) → map (rank_of_key a b (role.OfFamily f)) (cons_option o ks)
+      ≡ cons_option (option_map (rank_of_key a b (role.OfFamily f)) o) (map (rank_of_key a b (role.OfFamily f)) ks)
   more None ks = refl
   more (Some k) ks = refl
 
   -- the ranks of what references name are those of the keys that they name
-  pub ranks_of_keys : (vs : List Value) → filter_map (λ v. option_and_then (rank_with_id a b side f) (as_str (view v))) vs ≡ list_of_ranks a b side f (map view vs)
+  pub ranks_of_keys : (vs : List Value) → filter_map (λ v. option_and_then (rank_with_id a b side f) (as_str (view v))) vs
+      ≡ list_of_ranks a b side f (map view vs)
   ranks_of_keys [] = refl
   ranks_of_keys (v ∷ vs) =
       let j = on_side side a b in
@@ -35,14 +42,19 @@ module _ {K : Type 0} (cmp : K → K → Ordering) (total : IsTotalOrder cmp) (e
 pub sorted_once : (ns sorted once : List ℕ) → IsPermutation ns sorted → IsSorted nat_cmp sorted → once ≡ dedup ◌==◌ sorted → IsRankSet ns once
 sorted_once ns sorted once all rises is = subst (IsRankSet ns) (sym is) (record {
   rises = IsStrictlySortedBy-dedup nat_cmp_total unsigned_ties sorted rises;
-  same = λ n. both_ways (rank_set (dedup ◌==◌ sorted) n) (rank_set sorted n) (fewer n) (kept n) ∙ sym (list_any-IsPermutation (λ m. is_eq (nat_cmp m n)) ns sorted all);
+  same = λ n. both_ways (rank_set (dedup ◌==◌ sorted) n) (rank_set sorted n) (fewer n) (kept n)
+      ∙ sym (list_any-IsPermutation (λ m. is_eq (nat_cmp m n)) ns sorted all);
 })
   where
     fewer : (n : ℕ) → rank_set (dedup ◌==◌ sorted) n ≡ true → rank_set sorted n ≡ true
-    fewer n h = any_from_in nat_cmp nat_cmp_total exact_unsigned n sorted (In-from_contains n sorted (Contains-from_dedup ◌==◌ sorted n (contains_from_In n (dedup ◌==◌ sorted) (in_from_any nat_cmp nat_cmp_total exact_unsigned n (dedup ◌==◌ sorted) h))))
+    fewer n h = any_from_in nat_cmp nat_cmp_total exact_unsigned n sorted
+        (In-from_contains n sorted
+        (Contains-from_dedup ◌==◌ sorted n (contains_from_In n (dedup ◌==◌ sorted) (in_from_any nat_cmp nat_cmp_total exact_unsigned n (dedup ◌==◌ sorted) h))))
 
     kept : (n : ℕ) → rank_set sorted n ≡ true → rank_set (dedup ◌==◌ sorted) n ≡ true
-    kept n h = any_from_in nat_cmp nat_cmp_total exact_unsigned n (dedup ◌==◌ sorted) (In-from_contains n (dedup ◌==◌ sorted) (Contains-dedup_nat sorted n (contains_from_In n sorted (in_from_any nat_cmp nat_cmp_total exact_unsigned n sorted h))))
+    kept n h = any_from_in nat_cmp nat_cmp_total exact_unsigned n (dedup ◌==◌ sorted)
+        (In-from_contains n (dedup ◌==◌ sorted)
+        (Contains-dedup_nat sorted n (contains_from_In n sorted (in_from_any nat_cmp nat_cmp_total exact_unsigned n sorted h))))
 
 -- ---- sets of keys, by their common ranks
 
@@ -54,7 +66,8 @@ module _ (a b : Judged) (r : Role) where
   abbrev pub AllKnown : List Key → Type 0
   AllKnown ks = (k : Key) → In k ks → Stands (Some k) (both_keys a b r)
 
-  keys_over : (ks ls : List Key) → AllKnown ks → AllKnown ls → ((n : ℕ) → rank_set (map rank ks) n ≡ rank_set (map rank ls) n) → (k : Key) → key_set ks k ≡ true → key_set ls k ≡ true
+  keys_over : (ks ls : List Key) → AllKnown ks → AllKnown ls → ((n : ℕ) → rank_set (map rank ks) n ≡ rank_set (map rank ls) n) → (k : Key) → key_set ks k
+      ≡ true → key_set ls k ≡ true
   keys_over ks ls mine its same k h =
       let inside = in_from_any key_cmp key_cmp_total key_cmp_exact k ks h in
       let any = sym (same (rank k)) ∙ any_from_in nat_cmp nat_cmp_total exact_unsigned (rank k) (map rank ks) (In-map rank k ks inside) in
@@ -65,16 +78,19 @@ module _ (a b : Judged) (r : Role) where
   ranks_over : (ks ls : List Key) → ((k : Key) → key_set ks k ≡ key_set ls k) → (n : ℕ) → rank_set (map rank ks) n ≡ true → rank_set (map rank ls) n ≡ true
   ranks_over ks ls same n h =
       let image = In-map_from rank ks n (in_from_any nat_cmp nat_cmp_total exact_unsigned n (map rank ks) h) in
-      let inside = in_from_any key_cmp key_cmp_total key_cmp_exact image.0 ls (sym (same image.0) ∙ any_from_in key_cmp key_cmp_total key_cmp_exact image.0 ks image.1) in
+      let inside = in_from_any key_cmp key_cmp_total key_cmp_exact image.0 ls
+      (sym (same image.0) ∙ any_from_in key_cmp key_cmp_total key_cmp_exact image.0 ks image.1) in
       any_from_in nat_cmp nat_cmp_total exact_unsigned n (map rank ls) (subst (λ x. In x (map rank ls)) image.2 (In-map rank image.0 ls inside))
 
-  pub same_keys : (ks ls : List Key) → AllKnown ks → AllKnown ls → ((n : ℕ) → rank_set (map rank ks) n ≡ rank_set (map rank ls) n) → (k : Key) → key_set ks k ≡ key_set ls k
+  pub same_keys : (ks ls : List Key) → AllKnown ks → AllKnown ls → ((n : ℕ) → rank_set (map rank ks) n ≡ rank_set (map rank ls) n) → (k : Key)
+      → key_set ks k ≡ key_set ls k
   same_keys ks ls mine its same k = both_ways (key_set ks k) (key_set ls k) (keys_over ks ls mine its same k) (keys_over ls ks its mine (λ n. sym (same n)) k)
 
   pub same_ranks : (ks ls : List Key) → ((k : Key) → key_set ks k ≡ key_set ls k) → (n : ℕ) → rank_set (map rank ks) n ≡ rank_set (map rank ls) n
   same_ranks ks ls same n = both_ways (rank_set (map rank ks) n) (rank_set (map rank ls) n) (ranks_over ks ls same n) (ranks_over ls ks (λ k. sym (same k)) n)
 
-  pub sets_decide : (ks ls : List Key) → AllKnown ks → AllKnown ls → (s t : List ℕ) (answer : Bool) → IsRankSet (map rank ks) s → IsRankSet (map rank ls) t → Decides answer s t → Decides answer (key_set ks) (key_set ls)
+  pub sets_decide : (ks ls : List Key) → AllKnown ks → AllKnown ls → (s t : List ℕ) (answer : Bool) → IsRankSet (map rank ks) s → IsRankSet (map rank ls) t
+      → Decides answer s t → Decides answer (key_set ks) (key_set ls)
   sets_decide ks ls here there s t answer mine its decides = (
     λ h. fun_ext (same_keys ks ls here there (λ n. sym (mine.same n) ∙ (ap (λ xs. rank_set xs n) (decides.0 h) ∙ its.same n))),
     λ same. decides.1 (set_unique nat_cmp nat_cmp_total exact_unsigned s t mine.rises its.rises

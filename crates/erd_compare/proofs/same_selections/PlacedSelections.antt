@@ -1,5 +1,10 @@
 -- The selections of a contest among those of their report.
-use Rattle.erd_compare.proofs.Common.{◌≡◌, ℕ, ◌+◌, Bool, true, false, cond, List, map, ◌==◌, slice_get, Some, None, codes, Option, option_map, option_and_then, sym, refl, ap, ◌∙◌, subst, slice_get-map, Data, get, view, role_of_class, kind_of_member, Class, class, family, role, MemberKind, kind, In, In-flat_map, entries_of, entries_at, Judged, Placed, contests, selections_of_contest, objects, numbered_selections, selection_map, name_of, option_and_then_some, option_map-Some, in_at, Decides, IsPairOf, IsPlaced, AreSelectionsAt, AreSelectionsIn, on_side, is_selections, numbered_map, MemberPair, ComparedReport, Left, Right, position_of}
+use Rattle.erd_compare.proofs.Common.{◌≡◌, ℕ, ◌+◌, Bool, true, false, cond, List, map, ◌==◌, slice_get, Some, None, codes, Option, option_map, option_and_then}
+use Rattle.erd_compare.proofs.Common.{sym, refl, ap, ◌∙◌, subst, slice_get-map, Data, get, view, role_of_class, kind_of_member, Class, class, family, role}
+use Rattle.erd_compare.proofs.Common.{MemberKind, kind, In, In-flat_map, entries_of, entries_at, Judged, Placed, contests, selections_of_contest, objects}
+use Rattle.erd_compare.proofs.Common.{numbered_selections, selection_map, name_of, option_and_then_some, option_map-Some, in_at, Decides, IsPairOf, IsPlaced}
+use Rattle.erd_compare.proofs.Common.{AreSelectionsAt, AreSelectionsIn, on_side, is_selections, numbered_map, MemberPair, ComparedReport, Left, Right}
+use Rattle.erd_compare.proofs.Common.{position_of}
 use Rattle.erd_meaning.proofs.selections.NamesTold.{numbered_at}
 use Rattle.erd_meaning.proofs.accepted.Standing.{values-placed_entries}
 use Rattle.erd_meaning.specs.code.SelectionWalk.{StandFrom, if_of_contest, selection_of}
@@ -35,7 +40,8 @@ placed_selections : (a : Judged) (c : Class) (name : List ℕ) (i : ℕ) (d : Da
 placed_selections a c name i d found placed is holds =
     let selections : kinds.is_selections (kind_of_member c name) ≡ true = holds_selections (kind_of_member c name) holds in
     let contest : IsPlaced a (role.OfFamily family.Contest) i d = subst (λ r. IsPlaced a r i d) (selections_role c name selections) placed in
-    through (codes "ContestSelection") d (slice_get (contests (view a.tree)) i) contest ∙ ap (λ n. get n d) (sym (kinds.selections_name c name selections)) ∙ sym is
+    through (codes "ContestSelection") d (slice_get (contests (view a.tree)) i) contest ∙ ap (λ n. get n d) (sym (kinds.selections_name c name selections))
+    ∙ sym is
 
 -- what the objects at two positions have under a name
 pub pair_one : (a : Judged) (c : Class) (i : ℕ) (d e : Data) (pair : MemberPair) → IsPlaced a (role_of_class c) i d → IsPairOf d e pair
@@ -54,11 +60,14 @@ entries_there d v e = rw e
 at_contest : (o : Option Placed) (v : Data) (i : ℕ) → option_and_then (λ o. get (codes "ContestSelection") o.value) o ≡ Some v
     → option_map (λ (s : Placed). s.value) (option_and_then (λ o. slice_get (selections_of_contest o) i) o) ≡ slice_get (entries_of v) i
 at_contest None v i e = cc
-at_contest (Some o) v i e = sym (slice_get-map (λ (s : Placed). s.value) (selections_of_contest o) i) ∙ ap (λ ds. slice_get ds i) (values-placed_entries (codes "ContestSelection") o ∙ entries_there o.value v e)
+at_contest (Some o) v i e = sym (slice_get-map (λ (s : Placed). s.value) (selections_of_contest o) i)
+    ∙ ap (λ ds. slice_get ds i) (values-placed_entries (codes "ContestSelection") o ∙ entries_there o.value v e)
 
 -- the entries of the member are the selections of the contest at a position
-pub selections_in : (a : Judged) (c : ℕ) (found : Option Data) (v : Data) (ds : List Data) → AreSelectionsAt a c found → found ≡ Some v → ds ≡ entries_of v → AreSelectionsIn a c ds
-selections_in a c found v ds there is entries = subst (AreSelectionsIn a c) (sym entries) (λ i. at_contest (slice_get (contests (view a.tree)) c) v i (there ∙ is))
+pub selections_in : (a : Judged) (c : ℕ) (found : Option Data) (v : Data) (ds : List Data) → AreSelectionsAt a c found → found ≡ Some v → ds ≡ entries_of v
+    → AreSelectionsIn a c ds
+selections_in a c found v ds there is entries = subst (AreSelectionsIn a c) (sym entries)
+    (λ i. at_contest (slice_get (contests (view a.tree)) c) v i (there ∙ is))
 
 -- ---- among all selections
 
@@ -77,7 +86,8 @@ module _ (a : Judged) (c : ℕ) (ds : List Data) (are : AreSelectionsIn a c ds) 
       inside : In object.0 (objects family.Selection t)
       inside =
           option_and_then_some (λ (x : Placed). slice_get (selections_of_contest x) i) (slice_get (contests t) c) object.0 object.1
-          (λ x here there. In-flat_map selections_of_contest object.0 x (contests t) (in_at (contests t) c x here) (in_at (selections_of_contest x) i object.0 there))
+          (λ x here there. In-flat_map selections_of_contest object.0 x (contests t) (in_at (contests t) c x here)
+          (in_at (selections_of_contest x) i object.0 there))
 
   own_selection : (s : Option (ℕ × Placed)) (o : Placed) → option_and_then (if_of_contest c) s ≡ Some o → option_map (λ (x : ℕ × Placed). x.1) s ≡ Some o
   own_selection None o e = cc
@@ -89,7 +99,8 @@ module _ (a : Judged) (c : ℕ) (ds : List Data) (are : AreSelectionsIn a c ds) 
 
   -- it stands as far after the first selection of its contest as in the contest
   pub stands_after : (start : ℕ) → StandFrom t c start → (o : Placed) × (slice_get (objects family.Selection t) (start + i) ≡ Some o) × (o.value ≡ d)
-  stands_after start from = (object.0, sym (numbered_at t (start + i)) ∙ own_selection (slice_get (numbered_selections t) (start + i)) object.0 (from i ∙ object.1), object.2)
+  stands_after start from =
+      (object.0, sym (numbered_at t (start + i)) ∙ own_selection (slice_get (numbered_selections t) (start + i)) object.0 (from i ∙ object.1), object.2)
 
 -- ---- the names of the selections of a contest have numbers
 
@@ -101,7 +112,8 @@ contest_named a b side c ds are d inside n is =
     selection_named a b side o.0 n o.1 (ap (name_of j.prefer (view j.tree)) o.2 ∙ is)
 
 -- so what is decided of them by numbers is decided
-pub contests_decide : (a b : Judged) (one other : Selections) → AreSelectionsIn a one.contest (map view one.values.now) → AreSelectionsIn b other.contest (map view other.values.now) → (answer : Bool)
+pub contests_decide : (a b : Judged) (one other : Selections) → AreSelectionsIn a one.contest (map view one.values.now)
+    → AreSelectionsIn b other.contest (map view other.values.now) → (answer : Bool)
     → Decides answer (numbered_map a b Left (map view one.values.now)) (numbered_map a b Right (map view other.values.now))
     → Decides answer (selection_map a.prefer (view a.tree) (map view one.values.now)) (selection_map b.prefer (view b.tree) (map view other.values.now))
 contests_decide a b one other mine its answer told =

@@ -1,5 +1,12 @@
 -- The selections of a contest are put under the numbers of their names one after another, the first of each name.
-use Rattle.erd_compare.proofs.Common.{◌≡◌, ℕ, Bool, true, false, cond, List, [], ◌∷◌, is_some, ◌==◌, Some, None, Option, option_map, find, sym, refl, ap, ◌∙◌, true≢false, Bor, Decides-eqb, option_eq, option_or, Data, view, Value, Judged, number_of_selection, has_number, IsByNumber, ComparedReport, suc, ◌⊎◌, length, option_and_then, subst, inl, inr, arith, fun_ext, AllByRecursion, Class, Preference, plain_member, selection_record, name_in_class, selection_role, ◌↔◌, IsDistinct, find-Some, SelectionRecord, number_of_name, Decides, IsWholeTree, on_side, numbered_map, Left, Right, In-all, key_named, not, IfSome, IfOk, Ok, Err, Result, array, no_items, item, kind_of_member, family, MemberKind, kind, entries_of, PlainValue, MemberValue, a_plain, NameParts, selection_map, member_value, a_selection_map, plain_found, member_found, is_selections, if_filled, selections_meant}
+use Rattle.erd_compare.proofs.Common.{◌≡◌, ℕ, Bool, true, false, cond, List, [], ◌∷◌, is_some, ◌==◌, Some, None, Option, option_map, find, sym, refl, ap, ◌∙◌}
+use Rattle.erd_compare.proofs.Common.{true≢false, Bor, Decides-eqb, option_eq, option_or, Data, view, Value, Judged, number_of_selection, has_number}
+use Rattle.erd_compare.proofs.Common.{IsByNumber, ComparedReport, suc, ◌⊎◌, length, option_and_then, subst, inl, inr, arith, fun_ext, AllByRecursion, Class}
+use Rattle.erd_compare.proofs.Common.{Preference, plain_member, selection_record, name_in_class, selection_role, ◌↔◌, IsDistinct, find-Some, SelectionRecord}
+use Rattle.erd_compare.proofs.Common.{number_of_name, Decides, IsWholeTree, on_side, numbered_map, Left, Right, In-all, key_named, not, IfSome, IfOk, Ok, Err}
+use Rattle.erd_compare.proofs.Common.{Result, array, no_items, item, kind_of_member, family, MemberKind, kind, entries_of, PlainValue, MemberValue, a_plain}
+use Rattle.erd_compare.proofs.Common.{NameParts, selection_map, member_value, a_selection_map, plain_found, member_found, is_selections, if_filled}
+use Rattle.erd_compare.proofs.Common.{selections_meant}
 use Rattle.std.specs.Cmp.{unsigned_tied}
 use Rattle.std.specs.Map.{lookup, keys_of}
 use Rattle.std.specs.Ordering.{eq_by_cmp, nat_cmp}
@@ -28,7 +35,9 @@ pub sorted_at : {V : Type 0} (m : Numbered V) (q : ℕ) → lookup (eq_by_cmp na
 sorted_at m q = ap (λ (same : ℕ → ℕ → Bool). lookup (same q) m) sorted_tests
 
 -- a value is put there
-pub sorted_update : {V : Type 0} (m n : Numbered V) (k : ℕ) (w : Option V) → ((q : ℕ) → lookup (eq_by_cmp nat_cmp q) n ≡ cond (eq_by_cmp nat_cmp k q) w (lookup (eq_by_cmp nat_cmp q) m)) → (q : ℕ) → at_number n q ≡ cond (k == q) w (at_number m q)
+pub sorted_update : {V : Type 0} (m n : Numbered V) (k : ℕ) (w : Option V)
+    → ((q : ℕ) → lookup (eq_by_cmp nat_cmp q) n ≡ cond (eq_by_cmp nat_cmp k q) w (lookup (eq_by_cmp nat_cmp q) m)) → (q : ℕ) → at_number n q
+    ≡ cond (k == q) w (at_number m q)
 sorted_update m n k w h = subst (λ (same : ℕ → ℕ → Bool). (q : ℕ) → lookup (same q) n ≡ cond (same k q) w (lookup (same q) m)) sorted_tests h
 
 -- sorted numbers are distinct
@@ -65,7 +74,8 @@ module _ {V : Type 0} (see : V → Data) where
         unless_left (Some d) = refl
 
     -- a selection without a name
-    pub unnamed : (all left : List Data) (d : Data) (m : Numbered V) → None ≡ number_of_selection a b side d → IsFilling a b side all (d ∷ left) m → IsFilling a b side all left m
+    pub unnamed : (all left : List Data) (d : Data) (m : Numbered V) → None ≡ number_of_selection a b side d → IsFilling a b side all (d ∷ left) m
+        → IsFilling a b side all left m
     unnamed all left d m nameless h q =
         ap (λ yes. option_or (had m q) (cond yes (Some d) (find (has_number a b side q) left))) (ap (λ o. option_eq ◌==◌ o (Some q)) nameless) ∙ h q
 
@@ -74,19 +84,22 @@ module _ {V : Type 0} (see : V → Data) where
     tested d k q named = ap (λ o. option_eq ◌==◌ o (Some q)) (sym named)
 
     -- a selection with a name that is there
-    pub named_before : (all left : List Data) (d : Data) (k : ℕ) (m : Numbered V) → Some k ≡ number_of_selection a b side d → is_some (at_number m k) ≡ true → IsFilling a b side all (d ∷ left) m → IsFilling a b side all left m
+    pub named_before : (all left : List Data) (d : Data) (k : ℕ) (m : Numbered V) → Some k ≡ number_of_selection a b side d → is_some (at_number m k) ≡ true
+        → IsFilling a b side all (d ∷ left) m → IsFilling a b side all left m
     named_before all left d k m named before h q = at q (at_number m q) refl ∙ h q
       where
         other : (q : ℕ) → at_number m q ≡ None → (yes : Bool) → (k == q) ≡ yes → yes ≡ false
         other q none true e = absurd (true≢false (sym before ∙ (ap (λ x. is_some (at_number m x)) (one_number k q e) ∙ ap is_some none)))
         other q none false e = refl
 
-        at : (q : ℕ) (o : Option V) → at_number m q ≡ o → option_or (option_map see o) (find (has_number a b side q) left) ≡ option_or (option_map see o) (find (has_number a b side q) (d ∷ left))
+        at : (q : ℕ) (o : Option V) → at_number m q ≡ o → option_or (option_map see o) (find (has_number a b side q) left) ≡ option_or (option_map see o)
+            (find (has_number a b side q) (d ∷ left))
         at q (Some w) e = refl
         at q None e = sym (ap (λ yes. cond yes (Some d) (find (has_number a b side q) left)) (tested d k q named ∙ other q e ((k == q)) refl))
 
     -- a selection with a new name, which is put there
-    pub named_first : (all left : List Data) (d : Data) (w : V) (k : ℕ) (m n : Numbered V) → Some k ≡ number_of_selection a b side d → is_some (at_number m k) ≡ false
+    pub named_first : (all left : List Data) (d : Data) (w : V) (k : ℕ) (m n : Numbered V) → Some k ≡ number_of_selection a b side d
+        → is_some (at_number m k) ≡ false
         → ((q : ℕ) → at_number n q ≡ cond (k == q) (Some w) (at_number m q)) → see w ≡ d → IsFilling a b side all (d ∷ left) m → IsFilling a b side all left n
     named_first all left d w k m n named new updates is h q =
         (ap (λ o. option_or (option_map see o) (find (has_number a b side q) left)) (updates q) ∙ at q ((k == q)) refl) ∙ h q
@@ -95,9 +108,11 @@ module _ {V : Type 0} (see : V → Data) where
         none None e = refl
         none (Some x) e = cc
 
-        at : (q : ℕ) (yes : Bool) → (k == q) ≡ yes → option_or (option_map see (cond yes (Some w) (at_number m q))) (find (has_number a b side q) left) ≡ option_or (had m q) (find (has_number a b side q) (d ∷ left))
+        at : (q : ℕ) (yes : Bool) → (k == q) ≡ yes → option_or (option_map see (cond yes (Some w) (at_number m q))) (find (has_number a b side q) left)
+            ≡ option_or (had m q) (find (has_number a b side q) (d ∷ left))
         at q true e =
-            sym (ap (λ o. option_or (option_map see o) (find (has_number a b side q) (d ∷ left))) (ap (at_number m) (sym (one_number k q e)) ∙ none (at_number m k) new)
+            sym (ap (λ o. option_or (option_map see o) (find (has_number a b side q) (d ∷ left)))
+            (ap (at_number m) (sym (one_number k q e)) ∙ none (at_number m k) new)
             ∙ (ap (λ yes. cond yes (Some d) (find (has_number a b side q) left)) (tested d k q named ∙ e) ∙ ap Some (sym is)))
         at q false e = sym (ap (λ yes. option_or (had m q) (cond yes (Some d) (find (has_number a b side q) left))) (tested d k q named ∙ e))
 
@@ -147,7 +162,8 @@ module _ (a b : Judged) (side : ComparedReport) (ds : List Data) where
   means_something : (name : ℕ) (d : Data) → has_number a b side name d ≡ true → selection_record π t d ≡ None → ⊥
   means_something name d named = at (class_of_object selection_role d) named
     where
-      at : (o : Option Class) → option_eq ◌==◌ (option_map (number_of_name a b) (option_map (λ c. name_in_class π (key_named π t) c d) o)) (Some name) ≡ true → option_map (in_class π t d) o ≡ None → ⊥
+      at : (o : Option Class) → option_eq ◌==◌ (option_map (number_of_name a b) (option_map (λ c. name_in_class π (key_named π t) c d) o)) (Some name) ≡ true
+          → option_map (in_class π t d) o ≡ None → ⊥
       at None h nothing = cc
       at (Some c) h nothing = cc
 
@@ -196,8 +212,10 @@ module _ (a b : Judged) (ds es : List Data) where
     each : (q : ℕ) → IsPassed ls rs q ⊎ IsLeft ls rs q
 
 module _ {a b : Judged} {ds es : List Data} where
-  pub both_maps : {all ls rs : List Entry} → all ≡ ls → IsDistinct ◌==◌ (keys_of ls) → IsByNumber a b Left ds ls → IsByNumber a b Right es rs → AreSelectionsLeft a b ds es all rs
-  both_maps {rs = rs} begun distinct mine its = subst (λ xs. AreSelectionsLeft a b ds es xs rs) (sym begun) (record { distinct = distinct; each = λ q. inr (record { left = mine q; right = its q }) })
+  pub both_maps : {all ls rs : List Entry} → all ≡ ls → IsDistinct ◌==◌ (keys_of ls) → IsByNumber a b Left ds ls → IsByNumber a b Right es rs
+      → AreSelectionsLeft a b ds es all rs
+  both_maps {rs = rs} begun distinct mine its = subst (λ xs. AreSelectionsLeft a b ds es xs rs) (sym begun)
+      (record { distinct = distinct; each = λ q. inr (record { left = mine q; right = its q }) })
 
   -- the next entry
   module _ (e : Entry) {all ls rs : List Entry} (next : all ≡ e ∷ ls) (left : AreSelectionsLeft a b ds es all rs) where
@@ -232,9 +250,12 @@ module _ {a b : Judged} {ds es : List Data} where
       whole_right whole = whole_at a b Right es whole e.0 (view w.now) own_right
 
       -- they mean different things
-      pub differ : (selection_record a.prefer (view a.tree) (view e.1.now) ≡ selection_record b.prefer (view b.tree) (view w.now) → ⊥) → Decides false (ones a b ds es) (others a b ds es)
+      pub differ : (selection_record a.prefer (view a.tree) (view e.1.now) ≡ selection_record b.prefer (view b.tree) (view w.now) → ⊥)
+          → Decides false (ones a b ds es) (others a b ds es)
       differ unequal =
-          decided_not (λ same. unequal (sym (record_at a b Left ds e.0 (view e.1.now) own_left) ∙ (ap (λ m. m e.0) same ∙ record_at a b Right es e.0 (view w.now) own_right)))
+          decided_not
+          (λ same. unequal (sym (record_at a b Left ds e.0 (view e.1.now) own_left)
+          ∙ (ap (λ m. m e.0) same ∙ record_at a b Right es e.0 (view w.now) own_right)))
 
       -- they mean the same
       pub both_passed : {rs' : List Entry} → ((q : ℕ) → lookup (λ l. q == l) rs' ≡ cond (e.0 == q) None (lookup (λ l. q == l) rs))
@@ -278,9 +299,14 @@ module _ {a b : Judged} {ds es : List Data} where
   ]
 
   -- at the end nothing is left of the right exactly if both mean the same
-  pub ended : (answer : Bool) {ls : List Entry} (rs : List Entry) → ls ≡ [] → AreSelectionsLeft a b ds es ls rs → ((answer ≡ true) ↔ (length rs ≡ 0)) → Decides answer (ones a b ds es) (others a b ds es)
+  pub ended : (answer : Bool) {ls : List Entry} (rs : List Entry) → ls ≡ [] → AreSelectionsLeft a b ds es ls rs → ((answer ≡ true) ↔ (length rs ≡ 0))
+      → Decides answer (ones a b ds es) (others a b ds es)
   ended answer [] end h empty = (λ _. all_passed (subst (λ xs. AreSelectionsLeft a b ds es xs []) end h), λ _. empty.1 refl)
-  ended answer (g ∷ rs) end h empty = (λ told. let none : suc (length rs) ≡ 0 = empty.0 told in cc, λ same. absurd (right_alone g rs (subst (λ xs. AreSelectionsLeft a b ds es xs (g ∷ rs)) end h) same))
+  ended answer (g ∷ rs) end h empty = (
+    λ told. let none : suc (length rs) ≡ 0 = empty.0 told in
+        cc,
+    λ same. absurd (right_alone g rs (subst (λ xs. AreSelectionsLeft a b ds es xs (g ∷ rs)) end h) same),
+  )
 
 -- ---- what members mean: the selections of a contest, and all others, which mean what they do by themselves
 
@@ -303,7 +329,8 @@ filled-there (Some (array (item d ds))) v e = e
 filled-there (Some d) v e = e
 
 -- a value that is no empty array is the one that was found, and a whole tree if that is one
-pub whole_filled : (o : Option (Bor Value)) (v : Data) → IfSome o (λ w. IsWholeTree (view w.now)) → if_filled (option_map (λ w. view w.now) o) ≡ Some v → IsWholeTree v
+pub whole_filled : (o : Option (Bor Value)) (v : Data) → IfSome o (λ w. IsWholeTree (view w.now)) → if_filled (option_map (λ w. view w.now) o)
+    ≡ Some v → IsWholeTree v
 whole_filled None v whole e = cc
 whole_filled (Some w) v whole e =
     let same : Some (view w.now) ≡ Some v = filled-there (Some (view w.now)) v e in
@@ -311,8 +338,10 @@ whole_filled (Some w) v whole e =
     subst IsWholeTree is whole
 
 -- the selections of a member that is no empty array
-selections_meant-filled : (π : Preference) (t : Data) (found : Option Data) (v : Data) → if_filled found ≡ Some v → selections_meant π t found ≡ Some (a_selection_map (selection_map π t (entries_of v)))
-selections_meant-filled π t found v e = subst (λ o. selections_meant π t o ≡ Some (a_selection_map (selection_map π t (entries_of v)))) (sym (filled-there found v e)) (at v (subst (λ o. if_filled o ≡ Some v) (filled-there found v e) e))
+selections_meant-filled : (π : Preference) (t : Data) (found : Option Data) (v : Data) → if_filled found ≡ Some v → selections_meant π t found
+    ≡ Some (a_selection_map (selection_map π t (entries_of v)))
+selections_meant-filled π t found v e = subst (λ o. selections_meant π t o ≡ Some (a_selection_map (selection_map π t (entries_of v))))
+    (sym (filled-there found v e)) (at v (subst (λ o. if_filled o ≡ Some v) (filled-there found v e) e))
   where
     at : (d : Data) → if_filled (Some d) ≡ Some d → selections_meant π t (Some d) ≡ Some (a_selection_map (selection_map π t (entries_of d)))
     at (array no_items) e = cc
@@ -320,12 +349,16 @@ selections_meant-filled π t found v e = subst (λ o. selections_meant π t o �
     at d e = refl
 
 -- two contests have the same selections exactly if the maps of their entries are the same
-pub selections-Decide : (π ρ : Preference) {E : Type 0} (r : Result Bool E) (t u d e : Data) (found other : Option Data) (ds es : List Data) → if_filled found ≡ Some d → if_filled other ≡ Some e → ds ≡ entries_of d → es ≡ entries_of e
-    → IfOk r (λ answer. Decides answer (selection_map π t ds) (selection_map ρ u es)) → IfOk r (λ answer. Decides answer (selections_meant π t found) (selections_meant ρ u other))
+pub selections-Decide : (π ρ : Preference) {E : Type 0} (r : Result Bool E) (t u d e : Data) (found other : Option Data) (ds es : List Data) → if_filled found
+    ≡ Some d → if_filled other ≡ Some e → ds ≡ entries_of d → es ≡ entries_of e
+    → IfOk r (λ answer. Decides answer (selection_map π t ds) (selection_map ρ u es))
+    → IfOk r (λ answer. Decides answer (selections_meant π t found) (selections_meant ρ u other))
 selections-Decide π ρ (Err x) t u d e found other ds es left right of_d of_e h = tt
 selections-Decide π ρ (Ok answer) t u d e found other ds es left right of_d of_e h = (
-  λ is. selections_meant-filled π t found d left ∙ ap (λ m. Some (a_selection_map m)) (sym (ap (selection_map π t) of_d) ∙ h.0 is ∙ ap (selection_map ρ u) of_e) ∙ sym (selections_meant-filled ρ u other e right),
-  λ same. h.1 (ap (selection_map π t) of_d ∙ ap map_in (sym (selections_meant-filled π t found d left) ∙ same ∙ selections_meant-filled ρ u other e right) ∙ sym (ap (selection_map ρ u) of_e)),
+  λ is. selections_meant-filled π t found d left ∙ ap (λ m. Some (a_selection_map m)) (sym (ap (selection_map π t) of_d) ∙ h.0 is ∙ ap (selection_map ρ u) of_e)
+      ∙ sym (selections_meant-filled ρ u other e right),
+  λ same. h.1 (ap (selection_map π t) of_d ∙ ap map_in (sym (selections_meant-filled π t found d left) ∙ same ∙ selections_meant-filled ρ u other e right)
+      ∙ sym (ap (selection_map ρ u) of_e)),
 )
 
 -- ---- other members
@@ -340,9 +373,11 @@ pub plain-Decides : (answer : Bool) (p q : Option PlainValue) → Decides answer
 plain-Decides answer p q h = (λ is. ap (option_map a_plain) (h.0 is), λ same. h.1 (one_plain p q same))
 
 -- what all members mean by themselves is the same exactly if there is no name at which they differ
-pub plain_maps-Decide : (p q : List ℕ → Option PlainValue) (left : PairsLeft) (found : Option (List ℕ)) → GoesOn (λ k. option_map a_plain (p k)) (λ k. option_map a_plain (q k)) [] left found → Decides (not (is_some found)) p q
+pub plain_maps-Decide : (p q : List ℕ → Option PlainValue) (left : PairsLeft) (found : Option (List ℕ)) → GoesOn (λ k. option_map a_plain (p k))
+    (λ k. option_map a_plain (q k)) [] left found → Decides (not (is_some found)) p q
 plain_maps-Decide p q left None end = (λ h. fun_ext (λ k. one_plain (p k) (q k) (none_there end k)), λ same. refl)
-plain_maps-Decide p q left (Some name) next = (λ h. cc, λ same. absurd (next.differ.0 (ap (λ (m : List ℕ → Option PlainValue). option_map a_plain (m name)) same)))
+plain_maps-Decide p q left (Some name) next =
+    (λ h. cc, λ same. absurd (next.differ.0 (ap (λ (m : List ℕ → Option PlainValue). option_map a_plain (m name)) same)))
 
 -- members of a kind other than selections mean the same exactly if they do so by themselves
 other_kind : (π ρ : Preference) (answer : Bool) (t u : Data) (k : MemberKind) (found other : Option Data) (p q : Option PlainValue) → is_selections k ≡ false
@@ -350,8 +385,10 @@ other_kind : (π ρ : Preference) (answer : Bool) (t u : Data) (k : MemberKind) 
 other_kind π ρ answer t u (kind.Keyed family.Selection) found other p q is h = cc
 other_kind π ρ answer t u k found other p q is h = plain-Decides answer p q h
 
-pub other_member : {E : Type 0} (a b : Judged) (c : Class) (name : List ℕ) (found other : Option Data) (r : Result Bool E) → is_selections (kind_of_member c name) ≡ false
+pub other_member : {E : Type 0} (a b : Judged) (c : Class) (name : List ℕ) (found other : Option Data) (r : Result Bool E)
+    → is_selections (kind_of_member c name) ≡ false
     → IfOk r (λ answer. Decides answer (plain_found a.prefer (view a.tree) c name found) (plain_found b.prefer (view b.tree) c name other))
     → IfOk r (λ answer. Decides answer (member_found a.prefer (view a.tree) c name found) (member_found b.prefer (view b.tree) c name other))
-other_member a b c name found other (Ok answer) is h = other_kind a.prefer b.prefer answer (view a.tree) (view b.tree) (kind_of_member c name) found other _ _ is h
+other_member a b c name found other (Ok answer) is h = other_kind a.prefer b.prefer answer (view a.tree) (view b.tree)
+    (kind_of_member c name) found other _ _ is h
 other_member a b c name found other (Err e) is h = tt

@@ -1,5 +1,15 @@
 -- Answers that decide whether two values are equal.
-use Rattle.erd_compare.proofs.Common.{◌≡◌, ℕ, Bool, true, false, ◌==◌, Some, None, Option, option_map, sym, refl, ap, ◌∙◌, ap₂, true≢false, Decides-eqb, option_eq, Decides, ◌&&◌, List, map, subst, fun_ext, and_parts, and_from, both_ways, AllByRecursion, list_all, Data, view, Value, is_same_json, json_set, IsWholeTree, In, In-all, In-any, all_hold, any_at, each_holds, cond, Ordering, Equal, or_parts, or_from, nat_list_cmp_total, exact_bytes, match_ordering, null, object, Members, no_members, member, get_member, get, has_float, members_have_float, text_cmp, IsBeforeFirst, AreMembers, are_same_members, are_same_members_exact, members_unique, JsonMap, kind_of_member, Class, MemberKind, kind, if_carried, carried_members, Carried, is_carried_kind, takes_name, chosen_members, members_in, chosen_in, [], ◌∷◌, is_some, IfOk, codes, Result, bytes_eq, unwrap_or, IfOk-weaker, array, no_items, item, family_of_class, is_reference_name, kind_of_identity, class, has_keys, Preference, plain_value, kind_in_rows, kind_of_unlisted, unless_empty, Judged, NamesKeys, means_nothing, meant_value, plain_found, slice_get, option_and_then, family_number, Family, role, key_of, key_of_family_object, FindsId, Placed, objects, owner, name_of, number_of_name, number_of_selection, rank_of_key, on_side, ComparedReport}
+use Rattle.erd_compare.proofs.Common.{◌≡◌, ℕ, Bool, true, false, ◌==◌, Some, None, Option, option_map, sym, refl, ap, ◌∙◌, ap₂, true≢false, Decides-eqb}
+use Rattle.erd_compare.proofs.Common.{option_eq, Decides, ◌&&◌, List, map, subst, fun_ext, and_parts, and_from, both_ways, AllByRecursion, list_all, Data, view}
+use Rattle.erd_compare.proofs.Common.{Value, is_same_json, json_set, IsWholeTree, In, In-all, In-any, all_hold, any_at, each_holds, cond, Ordering, Equal}
+use Rattle.erd_compare.proofs.Common.{or_parts, or_from, nat_list_cmp_total, exact_bytes, match_ordering, null, object, Members, no_members, member, get_member}
+use Rattle.erd_compare.proofs.Common.{get, has_float, members_have_float, text_cmp, IsBeforeFirst, AreMembers, are_same_members, are_same_members_exact}
+use Rattle.erd_compare.proofs.Common.{members_unique, JsonMap, kind_of_member, Class, MemberKind, kind, if_carried, carried_members, Carried, is_carried_kind}
+use Rattle.erd_compare.proofs.Common.{takes_name, chosen_members, members_in, chosen_in, [], ◌∷◌, is_some, IfOk, codes, Result, bytes_eq, unwrap_or}
+use Rattle.erd_compare.proofs.Common.{IfOk-weaker, array, no_items, item, family_of_class, is_reference_name, kind_of_identity, class, has_keys, Preference}
+use Rattle.erd_compare.proofs.Common.{plain_value, kind_in_rows, kind_of_unlisted, unless_empty, Judged, NamesKeys, means_nothing, meant_value, plain_found}
+use Rattle.erd_compare.proofs.Common.{slice_get, option_and_then, family_number, Family, role, key_of, key_of_family_object, FindsId, Placed, objects, owner}
+use Rattle.erd_compare.proofs.Common.{name_of, number_of_name, number_of_selection, rank_of_key, on_side, ComparedReport}
 use Rattle.erd_check.specs.ValueSets.{StandsFor, values_in}
 use Rattle.erd_check.specs.declared.value_set.ValueSet.{ValueSet}
 use Rattle.erd_compare.proofs.whole_trees.WholeTrees.{AreWholeTrees, whole_tree-exact, whole_tree-itself, whole_trees-views, members_themselves}
@@ -21,7 +31,8 @@ pub pairs_differ : {A B : Type 0} {p : Bool} {x y : A} {u v : B} → Decides p x
 pairs_differ {A = A} {B = B} first failed = (λ e. absurd (true≢false (sym e ∙ failed)), λ e. first.1 (ap (λ (w : A × B). w.0) e))
 
 -- numbers decide whether what may be there is the same, if equal numbers are those of equal things
-pub options_decide : {A : Type 0} (number : A → ℕ) (o q : Option A) → ((x y : A) → o ≡ Some x → q ≡ Some y → number x ≡ number y → x ≡ y) → Decides (option_eq ◌==◌ (option_map number o) (option_map number q)) o q
+pub options_decide : {A : Type 0} (number : A → ℕ) (o q : Option A) → ((x y : A) → o ≡ Some x → q ≡ Some y → number x ≡ number y → x ≡ y)
+    → Decides (option_eq ◌==◌ (option_map number o) (option_map number q)) o q
 options_decide number None None one = (λ h. refl, λ e. refl)
 options_decide number (Some x) (Some y) one = (
   λ h. ap Some (one x y refl refl ((Decides-eqb (number x) (number y)).0 h)),
@@ -57,22 +68,28 @@ within ds es d each h = let r = In-any (is_same_json d) ds h in any_at (is_same_
 -- the entries of a list are in each set that is the same as its own
 all_in : (ds es : List Data) → AreWholeTrees ds → json_set ds ≡ json_set es → list_all (json_set es) ds ≡ true
 all_in ds es left same =
-    all_hold (json_set es) ds (λ d h. sym (ap (λ (set : Data → Bool). set d) same) ∙ any_at (is_same_json d) d ds h (whole_tree-itself d (In-all IsWholeTree d ds left h)))
+    all_hold (json_set es) ds (λ d h. sym (ap (λ (set : Data → Bool). set d) same)
+    ∙ any_at (is_same_json d) d ds h (whole_tree-itself d (In-all IsWholeTree d ds left h)))
 
 -- whether each value of either list is in the other decides whether the two are the same set
-pub json_set-Decides : (ds es : List Data) → AreWholeTrees ds → AreWholeTrees es → Decides (list_all (json_set es) ds && list_all (json_set ds) es) (json_set ds) (json_set es)
-json_set-Decides ds es left right = (forward, λ same. and_from (list_all (json_set es) ds) (list_all (json_set ds) es) (all_in ds es left same) (all_in es ds right (sym same)))
+pub json_set-Decides : (ds es : List Data) → AreWholeTrees ds → AreWholeTrees es → Decides (list_all (json_set es) ds && list_all (json_set ds) es)
+    (json_set ds) (json_set es)
+json_set-Decides ds es left right =
+    (forward, λ same. and_from (list_all (json_set es) ds) (list_all (json_set ds) es) (all_in ds es left same) (all_in es ds right (sym same)))
   where
     forward : list_all (json_set es) ds && list_all (json_set ds) es ≡ true → json_set ds ≡ json_set es
     forward h =
         let both = and_parts (list_all (json_set es) ds) (list_all (json_set ds) es) h in
-        fun_ext (λ d. both_ways (json_set ds d) (json_set es d) (within ds es d (λ e. entry_in ds es e left right both.0)) (within es ds d (λ e. entry_in es ds e right left both.1)))
+        fun_ext (λ d. both_ways (json_set ds d) (json_set es d) (within ds es d (λ e. entry_in ds es e left right both.0))
+        (within es ds d (λ e. entry_in es ds e right left both.1)))
 
 -- the same of values, by an answer
 pub values_decide : (vs ws : List Value) (answer : Bool) → AllByRecursion (λ v. IsWholeTree (view v)) vs → AllByRecursion (λ v. IsWholeTree (view v)) ws
-    → list_all (json_set (map view ws)) (map view vs) && list_all (json_set (map view vs)) (map view ws) ≡ answer → Decides answer (json_set (map view vs)) (json_set (map view ws))
+    → list_all (json_set (map view ws)) (map view vs) && list_all (json_set (map view vs)) (map view ws) ≡ answer → Decides answer (json_set (map view vs))
+    (json_set (map view ws))
 values_decide vs ws answer left right is =
-    subst (λ b. Decides b (json_set (map view vs)) (json_set (map view ws))) is (json_set-Decides (map view vs) (map view ws) (whole_trees-views vs left) (whole_trees-views ws right))
+    subst (λ b. Decides b (json_set (map view vs)) (json_set (map view ws))) is
+    (json_set-Decides (map view vs) (map view ws) (whole_trees-views vs left) (whole_trees-views ws right))
 
 -- a set that stands for values has what they have
 pub stands_for : (ds : List Data) (s : ValueSet) → StandsFor ds s → json_set (values_in s) ≡ json_set ds
@@ -127,7 +144,8 @@ carried_kind kind.Carried o = refl
 carried_kind k o = refl
 
 -- the choice of carried members takes what an object carries
-pub carried_by_choice : (class : Option Class) (d : Data) (name : List ℕ) → cond (takes_name (Carried class) name) (get name d) None ≡ carried_members class d name
+pub carried_by_choice : (class : Option Class) (d : Data) (name : List ℕ) → cond (takes_name (Carried class) name) (get name d) None
+    ≡ carried_members class d name
 carried_by_choice None d name = refl
 carried_by_choice (Some c) d name = carried_kind (kind_of_member c name) (get name d)
 
@@ -158,9 +176,11 @@ chosen-rise c (member k d ms) rise = at (takes_name c k) (chosen-rise c ms rise.
 -- chosen members hold no fraction, where no member does
 chosen-whole : (c : Choice) (ms : Members) → members_have_float ms ≡ false → members_have_float (chosen_members c ms) ≡ false
 chosen-whole c no_members h = refl
-chosen-whole c (member k d ms) h = at (takes_name c k) (or_parts (has_float d) (members_have_float ms) h).0 (chosen-whole c ms (or_parts (has_float d) (members_have_float ms) h).1)
+chosen-whole c (member k d ms) h = at (takes_name c k) (or_parts (has_float d) (members_have_float ms) h).0
+    (chosen-whole c ms (or_parts (has_float d) (members_have_float ms) h).1)
   where
-    at : (b : Bool) → has_float d ≡ false → members_have_float (chosen_members c ms) ≡ false → members_have_float (cond b (member k d (chosen_members c ms)) (chosen_members c ms)) ≡ false
+    at : (b : Bool) → has_float d ≡ false → members_have_float (chosen_members c ms) ≡ false
+        → members_have_float (cond b (member k d (chosen_members c ms)) (chosen_members c ms)) ≡ false
     at true first rest = or_from (has_float d) (members_have_float (chosen_members c ms)) first rest
     at false first rest = rest
 
@@ -185,7 +205,8 @@ members-Decide : (ms ns : Members) → AreMembers ms → AreMembers ns → membe
 members-Decide ms ns left right whole = (λ h. ap by_name (are_same_members_exact ms ns left right h), backward)
   where
     backward : by_name ms ≡ by_name ns → are_same_members ms ns ≡ true
-    backward same = subst (λ xs. are_same_members ms xs ≡ true) (members_unique ms ns left right (λ name. ap (λ (f : JsonMap). f name) same)) (members_themselves ms whole)
+    backward same = subst (λ xs. are_same_members ms xs ≡ true) (members_unique ms ns left right (λ name. ap (λ (f : JsonMap). f name) same))
+        (members_themselves ms whole)
 
 -- maps that are the chosen members of two whole trees, by name
 pub chosen-Decides : (c f : Choice) (d e : Data) (m n : JsonMap) → IsWholeTree d → IsWholeTree e
@@ -194,7 +215,8 @@ pub chosen-Decides : (c f : Choice) (d e : Data) (m n : JsonMap) → IsWholeTree
 chosen-Decides c f d e m n left right at_left at_right =
     let one : by_name (chosen_in c d) ≡ m = fun_ext (λ name. get_member-chosen_in name c d ∙ at_left name) in
     let other : by_name (chosen_in f e) ≡ n = fun_ext (λ name. get_member-chosen_in name f e ∙ at_right name) in
-    let decided = members-Decide (chosen_in c d) (chosen_in f e) (chosen-rise c (members_in d) (members_in-rise d left)) (chosen-rise f (members_in e) (members_in-rise e right))
+    let decided = members-Decide (chosen_in c d) (chosen_in f e) (chosen-rise c (members_in d) (members_in-rise d left))
+    (chosen-rise f (members_in e) (members_in-rise e right))
     (chosen-whole c (members_in d) (members_in-whole d left)) in
     subst (λ (x : JsonMap). Decides (are_same_members (chosen_in c d) (chosen_in f e)) x n) one
     (subst (λ (x : JsonMap). Decides (are_same_members (chosen_in c d) (chosen_in f e)) (by_name (chosen_in c d)) x) other decided)
@@ -224,11 +246,14 @@ unlisted_keyed c name =
     (either (bytes_eq name (codes "@id")) (kind_of_identity c) _ (either (is_some (family_of_class c)) kind.Identity kind.StrangeIdentity refl refl)
     (either (is_reference_name name) kind.StrangeReference kind.Carried refl refl))
 
-listed_keyed : (name : List ℕ) (rows : List Row) (other : MemberKind) → list_all (λ row. names_keys row.kind) rows ≡ true → names_keys other ≡ true → names_keys (unwrap_or (kind_in_rows rows name) other) ≡ true
+listed_keyed : (name : List ℕ) (rows : List Row) (other : MemberKind) → list_all (λ row. names_keys row.kind) rows ≡ true → names_keys other ≡ true
+    → names_keys (unwrap_or (kind_in_rows rows name) other) ≡ true
 listed_keyed name [] other all e = e
-listed_keyed name (row ∷ rows) other all e = at (bytes_eq name row.name) refl (listed_keyed name rows other (and_parts (names_keys row.kind) (list_all (λ row. names_keys row.kind) rows) all).1 e)
+listed_keyed name (row ∷ rows) other all e =
+    at (bytes_eq name row.name) refl (listed_keyed name rows other (and_parts (names_keys row.kind) (list_all (λ row. names_keys row.kind) rows) all).1 e)
   where
-    at : (b : Bool) → bytes_eq name row.name ≡ b → names_keys (unwrap_or (kind_in_rows rows name) other) ≡ true → names_keys (unwrap_or (kind_in_rows (row ∷ rows) name) other) ≡ true
+    at : (b : Bool) → bytes_eq name row.name ≡ b → names_keys (unwrap_or (kind_in_rows rows name) other) ≡ true
+        → names_keys (unwrap_or (kind_in_rows (row ∷ rows) name) other) ≡ true
     at true is rest = rw is (and_parts (names_keys row.kind) (list_all (λ row. names_keys row.kind) rows) all).0
     at false is rest = rw is rest
 
@@ -261,14 +286,19 @@ some-Decides : {A : Type 0} (answer : Bool) (a b : A) → Decides answer a b →
 some-Decides answer a b h = (λ is. ap Some (h.0 is), λ same. let one : a ≡ b = cc in h.1 one)
 
 -- two members outside the envelope whose values mean something mean the same exactly if they do as values of their kind
-pub meant-Decide : {E : Type 0} (a b : Judged) (c : Class) (name : List ℕ) (k : MemberKind) (found other : Option Data) (d e : Data) (r : Result Bool E) → is_in_envelope c name ≡ false → k ≡ kind_of_member c name
-    → found ≡ Some d → other ≡ Some e → means_nothing k d ≡ false → means_nothing k e ≡ false → IfOk r (λ answer. Decides answer (meant_value a.prefer (view a.tree) k d) (meant_value b.prefer (view b.tree) k e))
+pub meant-Decide : {E : Type 0} (a b : Judged) (c : Class) (name : List ℕ) (k : MemberKind) (found other : Option Data) (d e : Data) (r : Result Bool E)
+    → is_in_envelope c name ≡ false → k ≡ kind_of_member c name
+    → found ≡ Some d → other ≡ Some e → means_nothing k d ≡ false → means_nothing k e ≡ false
+    → IfOk r (λ answer. Decides answer (meant_value a.prefer (view a.tree) k d) (meant_value b.prefer (view b.tree) k e))
     → IfOk r (λ answer. Decides answer (plain_found a.prefer (view a.tree) c name found) (plain_found b.prefer (view b.tree) c name other))
 meant-Decide a b c name k found other d e r out its_kind is_d is_e one two h =
-    IfOk-weaker r (λ answer. Decides answer (meant_value a.prefer (view a.tree) k d) (meant_value b.prefer (view b.tree) k e)) (λ answer. Decides answer (plain_found a.prefer (view a.tree) c name found) (plain_found b.prefer (view b.tree) c name other))
-    (λ answer is. decides_as refl (sym (means a found d is_d one)) (sym (means b other e is_e two)) (some-Decides answer (meant_value a.prefer (view a.tree) k d) (meant_value b.prefer (view b.tree) k e) is)) h
+    IfOk-weaker r (λ answer. Decides answer (meant_value a.prefer (view a.tree) k d) (meant_value b.prefer (view b.tree) k e))
+    (λ answer. Decides answer (plain_found a.prefer (view a.tree) c name found) (plain_found b.prefer (view b.tree) c name other))
+    (λ answer is. decides_as refl (sym (means a found d is_d one)) (sym (means b other e is_e two))
+    (some-Decides answer (meant_value a.prefer (view a.tree) k d) (meant_value b.prefer (view b.tree) k e) is)) h
   where
-    means : (a : Judged) (found : Option Data) (d : Data) → found ≡ Some d → means_nothing k d ≡ false → plain_found a.prefer (view a.tree) c name found ≡ Some (meant_value a.prefer (view a.tree) k d)
+    means : (a : Judged) (found : Option Data) (d : Data) → found ≡ Some d → means_nothing k d ≡ false → plain_found a.prefer (view a.tree) c name found
+        ≡ Some (meant_value a.prefer (view a.tree) k d)
     means a found d is some = ap (plain_found a.prefer (view a.tree) c name) is ∙ rw out (rw (← its_kind) (plain_meant a.prefer (view a.tree) k d some))
 
 -- ---- what is found by an `@id` is the object that a reference names
@@ -278,11 +308,14 @@ module _ {R : Type 0} (told : Option Data → R) {x j : Judged} (same : x ≡ j)
   finds_there : {found : Option (Family × ℕ)} → FindsId (view x.tree) id found → FindsId (view j.tree) id found
   finds_there {found} finds = subst (λ (y : Judged). FindsId (view y.tree) id found) same finds
 
-  pub found_here : {g : Family} {i : ℕ} → FindsId (view x.tree) id (Some (g, i)) → (family_number g == family_number f) ≡ true → told (option_map (λ o. o.value) (slice_get (objects f (view j.tree)) i)) ≡ told (owner (view j.tree) f id)
+  pub found_here : {g : Family} {i : ℕ} → FindsId (view x.tree) id (Some (g, i)) → (family_number g == family_number f) ≡ true
+      → told (option_map (λ o. o.value) (slice_get (objects f (view j.tree)) i)) ≡ told (owner (view j.tree) f id)
   found_here {g} {i} finds one = ap (λ o. told (option_map (λ (o : Placed). o.value) o)) (sym (owner_here (view j.tree) f id g i (finds_there finds) one))
 
-  pub found_elsewhere : {g : Family} {i : ℕ} → FindsId (view x.tree) id (Some (g, i)) → (family_number g == family_number f) ≡ false → told None ≡ told (owner (view j.tree) f id)
-  found_elsewhere {g} {i} finds other = ap (λ o. told (option_map (λ (o : Placed). o.value) o)) (sym (owner_elsewhere (view j.tree) f id g i (finds_there finds) other))
+  pub found_elsewhere : {g : Family} {i : ℕ} → FindsId (view x.tree) id (Some (g, i)) → (family_number g == family_number f) ≡ false
+      → told None ≡ told (owner (view j.tree) f id)
+  found_elsewhere {g} {i} finds other = ap (λ o. told (option_map (λ (o : Placed). o.value) o))
+      (sym (owner_elsewhere (view j.tree) f id g i (finds_there finds) other))
 
   pub found_nowhere : FindsId (view x.tree) id None → told None ≡ told (owner (view j.tree) f id)
   found_nowhere finds = ap (λ o. told (option_map (λ (o : Placed). o.value) o)) (sym (owner_nowhere (view j.tree) f id (finds_there finds)))
@@ -293,7 +326,8 @@ module _ (a b : Judged) (side : ComparedReport) where
   rank_owned f o = option_map (rank_of_key a b (role.OfFamily f)) (option_and_then (key_of (on_side side a b).prefer) o)
 
   pub rank_kept : (f : Family) → has_keys f ≡ true → (o : Option Placed)
-      → option_map (rank_of_key a b (role.OfFamily f)) (option_and_then (λ o. key_of_family_object (on_side side a b).prefer f o.value) o) ≡ rank_owned f (option_map (λ o. o.value) o)
+      → option_map (rank_of_key a b (role.OfFamily f)) (option_and_then (λ o. key_of_family_object (on_side side a b).prefer f o.value) o)
+      ≡ rank_owned f (option_map (λ o. o.value) o)
   rank_kept f keyed None = refl
   rank_kept f keyed (Some o) = ap (λ c. option_map (rank_of_key a b (role.OfFamily f)) (cond c (key_of (on_side side a b).prefer o.value) None)) keyed
 

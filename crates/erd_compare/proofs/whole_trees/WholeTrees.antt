@@ -1,5 +1,11 @@
 -- Whole trees: their members and entries are whole trees, and equality as JSON decides equality on them.
-use Rattle.erd_compare.proofs.Common.{◌≡◌, ℕ, zero, suc, ◌+◌, ◌<◌, true, false, ◌&&◌, List, [], ◌∷◌, ◌++◌, map, length, get_or, pos, IfSome, Some, None, codes, Option, option_map, flat_map, sym, refl, subst, arith, Bor, and_from, or_parts, Decides-int_eq, AllByRecursion, option_map_or, Data, null, boolean, string, array, object, Items, no_items, item, Members, no_members, member, get, view, has_float, items_have_float, members_have_float, Value, Family, family, IsTree, is_same_json, list_of_items, entries_of, entries_at, Placed, placed_from, placed_entries, report_of, elections, contests, objects, Num, unsigned, negative, float, number, is_float, AreTrees, same_number, are_same_items, are_same_members, text_itself, flag_itself, is_same_exact, get_member-tree, Decides, IsWholeTree, IsPairOf, MemberPair, In, In-all, In-flat_map_from}
+use Rattle.erd_compare.proofs.Common.{◌≡◌, ℕ, zero, suc, ◌+◌, ◌<◌, true, false, ◌&&◌, List, [], ◌∷◌, ◌++◌, map, length, get_or, pos, IfSome, Some, None, codes}
+use Rattle.erd_compare.proofs.Common.{Option, option_map, flat_map, sym, refl, subst, arith, Bor, and_from, or_parts, Decides-int_eq, AllByRecursion}
+use Rattle.erd_compare.proofs.Common.{option_map_or, Data, null, boolean, string, array, object, Items, no_items, item, Members, no_members, member, get, view}
+use Rattle.erd_compare.proofs.Common.{has_float, items_have_float, members_have_float, Value, Family, family, IsTree, is_same_json, list_of_items, entries_of}
+use Rattle.erd_compare.proofs.Common.{entries_at, Placed, placed_from, placed_entries, report_of, elections, contests, objects, Num, unsigned, negative, float}
+use Rattle.erd_compare.proofs.Common.{number, is_float, AreTrees, same_number, are_same_items, are_same_members, text_itself, flag_itself, is_same_exact}
+use Rattle.erd_compare.proofs.Common.{get_member-tree, Decides, IsWholeTree, IsPairOf, MemberPair, In, In-all, In-flat_map_from}
 use Rattle.erd_tables.specs.declared.place.Step.{Step}
 use Rattle.erd_tables.specs.declared.place.Step.TheVariants.{Name}
 use Rattle.erd_text.proofs.WholeValues.{whole_get}
@@ -20,7 +26,8 @@ pub whole_tree-get : (name : List ℕ) (d v : Data) → IsWholeTree d → get na
 whole_tree-get name d v h e = record { is_tree = get-tree name d v h.is_tree e; whole = whole_get name d v h.whole e }
 
 -- and so is a value that was found in one
-pub whole_found : (name : List ℕ) (d : Data) (o : Option (Bor Value)) → IsWholeTree d → option_map (λ v. view v.now) o ≡ get name d → IfSome o (λ v. IsWholeTree (view v.now))
+pub whole_found : (name : List ℕ) (d : Data) (o : Option (Bor Value)) → IsWholeTree d → option_map (λ v. view v.now) o ≡ get name d
+    → IfSome o (λ v. IsWholeTree (view v.now))
 whole_found name d None h e = tt
 whole_found name d (Some v) h e = whole_tree-get name d (view v.now) h (sym e)
 
@@ -68,11 +75,13 @@ pub whole_values-entries_of : (d : Data) (vs : List Value) → IsWholeTree d →
 whole_values-entries_of d vs h is = whole_trees-values vs (subst AreWholeTrees (sym is) (whole_trees-entries_of d h))
 
 -- values that are the entries of the array of a member
-pub whole_values-entries_at : (name : List ℕ) (d : Data) (vs : List Value) → IsWholeTree d → map view vs ≡ entries_at name d → AllByRecursion (λ v. IsWholeTree (view v)) vs
+pub whole_values-entries_at : (name : List ℕ) (d : Data) (vs : List Value) → IsWholeTree d → map view vs ≡ entries_at name d
+    → AllByRecursion (λ v. IsWholeTree (view v)) vs
 whole_values-entries_at name d vs h is = whole_trees-values vs (subst AreWholeTrees (sym is) (whole_trees-entries_at name d h))
 
 -- the value at an index
-pub whole_value-index : (vs : List Value) (i : ℕ) (v : Value) → AllByRecursion (λ w. IsWholeTree (view w)) vs → i < length vs → v ≡ get_or vs i v → IsWholeTree (view v)
+pub whole_value-index : (vs : List Value) (i : ℕ) (v : Value) → AllByRecursion (λ w. IsWholeTree (view w)) vs → i < length vs
+    → v ≡ get_or vs i v → IsWholeTree (view v)
 whole_value-index [] i v h low e = absurd (omega arith)
 whole_value-index (w ∷ vs) zero v h low e = subst (λ u. IsWholeTree (view u)) (sym e) h.0
 whole_value-index (w ∷ vs) (suc i) v h low e = whole_value-index vs i v h.1 (omega arith) e
@@ -107,7 +116,8 @@ mutual
   members_themselves no_members h = refl
   members_themselves (member k d ms) h =
       let parts = or_parts (has_float d) (members_have_float ms) h in
-      and_from _ (is_same_json d d && are_same_members ms ms) (text_itself k) (and_from (is_same_json d d) (are_same_members ms ms) (itself d parts.0) (members_themselves ms parts.1))
+      and_from _ (is_same_json d d && are_same_members ms ms) (text_itself k)
+      (and_from (is_same_json d d) (are_same_members ms ms) (itself d parts.0) (members_themselves ms parts.1))
 
 -- a whole tree is equal to itself as JSON
 pub whole_tree-itself : (d : Data) → IsWholeTree d → is_same_json d d ≡ true
@@ -137,7 +147,8 @@ whole_entries name parent o h among =
     (whole_placed (parent.place ++ Name name ∷ []) 0 (entries_at name parent.value) (whole_trees-entries_at name parent.value h)) among
 
 -- the entries of a member of each of these objects
-whole_inside : (name : List ℕ) (parents : List Placed) (o : Placed) → ((p : Placed) → In p parents → IsWholeTree p.value) → In o (flat_map (placed_entries name) parents) → IsWholeTree o.value
+whole_inside : (name : List ℕ) (parents : List Placed) (o : Placed) → ((p : Placed) → In p parents → IsWholeTree p.value)
+    → In o (flat_map (placed_entries name) parents) → IsWholeTree o.value
 whole_inside name parents o h among = let p = In-flat_map_from (placed_entries name) parents o among in whole_entries name p.0 o (h p.0 p.1) p.2
 
 -- each election

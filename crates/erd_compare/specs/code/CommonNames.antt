@@ -45,7 +45,8 @@ ranks_told common side r = filter_map (common_rank_of common side (role_of_name 
 
 -- The name of a selection of the report, with these common ranks in place of its keys.
 abbrev pub name_told : CommonRanks → ComparedReport → Judged → Data → Option RankedParts
-name_told common side a d = option_map (λ n. numbered_parts n (ranks_told common side (ranked_name a.prefer (view a.tree) n))) (name_of a.prefer (view a.tree) d)
+name_told common side a d = option_map (λ n. numbered_parts n (ranks_told common side (ranked_name a.prefer (view a.tree) n)))
+    (name_of a.prefer (view a.tree) d)
 
 -- True if the two names are equal.
 abbrev pub name_eq : RankedParts → RankedParts → Bool
@@ -76,4 +77,5 @@ numbers_on Right n = n.right.items
 
 -- These are the numbers of the names of the selections of both reports, in the order of each.
 abbrev pub AreNameNumbers : Judged → Judged → NameNumbers → Type 0
-AreNameNumbers a b n = (side : ComparedReport) → numbers_on side n ≡ map (λ o. number_of_selection a b side o.value) (objects family.Selection (view (on_side side a b).tree))
+AreNameNumbers a b n = (side : ComparedReport) → numbers_on side n ≡ map (λ o. number_of_selection a b side o.value)
+    (objects family.Selection (view (on_side side a b).tree))

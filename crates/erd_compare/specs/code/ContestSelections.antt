@@ -1,5 +1,6 @@
 -- The selections of a contest that stands at a position of a report, by their names.
-use Rattle.std.specs.Prelude.{◌≡◌, ℕ, zero, suc, ◌+◌, ◌<◌, List, [], ◌∷◌, Bool, map, flat_map, length, sum_by, Option, Some, None, option_map, unwrap_or, codes, ⊤}
+use Rattle.std.specs.Prelude.{◌≡◌, ℕ, zero, suc, ◌+◌, ◌<◌, List, [], ◌∷◌, Bool, map, flat_map, length, sum_by, Option, Some, None, option_map, unwrap_or, codes}
+use Rattle.std.specs.Prelude.{⊤}
 use Rattle.std.specs.Option.{option_cmp}
 use Rattle.std.specs.Ordering.{is_eq}
 use Rattle.serde_json.specs.Data.{Data}
@@ -92,4 +93,5 @@ AreTold m n zero (Some room) (d ∷ ds) =
 -- The next difference is told with this, and so the room of the differences is that of those behind it.
 abbrev pub PassesOne : Meaning → Meaning → Difference → Option (List SelectionDifference) → Room → Room → Type 0
 PassesOne m n d told before after =
-    (e : DetailedDifference) (rest : List DetailedDifference) → e.difference ≡ d → told_with e ≡ told → AreTold m n after.first after.bytes rest → AreTold m n before.first before.bytes (e ∷ rest)
+    (e : DetailedDifference) (rest : List DetailedDifference) → e.difference ≡ d → told_with e ≡ told → AreTold m n after.first after.bytes rest
+    → AreTold m n before.first before.bytes (e ∷ rest)

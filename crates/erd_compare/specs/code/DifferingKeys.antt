@@ -12,8 +12,8 @@ use Rattle.erd_compare.specs.code.DifferingWays.{AreWays, hows_of}
 use Rattle.erd_compare.specs.code.KeyedDifferences.{map_of, rising_in_role, role_of_part}
 use Rattle.erd_compare.specs.declared.difference.Part.{Part}
 use Rattle.erd_compare.specs.declared.first.key_steps.Ranks.{Ranks}
-use Rattle.erd_compare.specs.declared.first.tables.KeyedWays.{KeyedWays}
-use Rattle.erd_compare.specs.declared.first.tables.Rising.{Rising}
+use Rattle.erd_compare.specs.declared.first.keyed_ways.KeyedWays.{KeyedWays}
+use Rattle.erd_compare.specs.declared.first.keyed_ways.Rising.{Rising}
 use Rattle.erd_compare.specs.declared.objects.ways.Ways.{Ways}
 use Rattle.erd_compare.specs.declared.objects.ways.Ways.TheVariants.{OnlyLeft, OnlyRight}
 

@@ -9,7 +9,7 @@ use Rattle.erd_compare.specs.Differences.{AgreeBut, AreDifferent, Stands, differ
 use Rattle.erd_compare.specs.code.DifferingWays.{hows_of}
 use Rattle.erd_compare.specs.declared.difference.Difference.{Difference}
 use Rattle.erd_compare.specs.declared.difference.Part.{Part}
-use Rattle.erd_compare.specs.declared.first.tables.KeyedWays.{KeyedWays}
+use Rattle.erd_compare.specs.declared.first.keyed_ways.KeyedWays.{KeyedWays}
 
 -- The differences at a key of the part, one for each way.
 abbrev pub differences_at : Part → KeyedWays → List Difference

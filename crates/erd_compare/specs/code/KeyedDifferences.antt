@@ -21,7 +21,7 @@ use Rattle.erd_compare.specs.Differences.{first_of, record_at}
 use Rattle.erd_compare.specs.declared.difference.How.{How}
 use Rattle.erd_compare.specs.declared.difference.Part.{Part}
 use Rattle.erd_compare.specs.declared.difference.Part.TheVariants as part
-use Rattle.erd_compare.specs.declared.first.tables.KeyedWays.{KeyedWays}
+use Rattle.erd_compare.specs.declared.first.keyed_ways.KeyedWays.{KeyedWays}
 use Rattle.erd_compare.specs.declared.objects.ways.Ways.{Ways}
 
 -- The report is accepted, a machine word can count its objects, and it is a tree whose numbers are whole.
@@ -107,7 +107,8 @@ map_of a p = record_at (meaning a.prefer (view a.tree)) p
 -- If the objects of the part at the two positions have the same key, these are the ways in which their records differ.
 abbrev pub TellsAtPositions : Bool → Judged → Judged → Part → ℕ → ℕ → Ways → Type 0
 TellsAtPositions all a b p i j ways =
-    (k : Option Key) → HasKeyAt a.prefer (view a.tree) (role_of_part p) i k → HasKeyAt b.prefer (view b.tree) (role_of_part p) j k → AreWays all (map_of a p k) (map_of b p k) ways
+    (k : Option Key) → HasKeyAt a.prefer (view a.tree) (role_of_part p) i k → HasKeyAt b.prefer (view b.tree) (role_of_part p) j k
+    → AreWays all (map_of a p k) (map_of b p k) ways
 
 -- The key is the least at which the two maps differ, and this is how, if there is a way.
 abbrev pub TellsLeastAt : RecordMap → RecordMap → Option Key → Option How → Type 0

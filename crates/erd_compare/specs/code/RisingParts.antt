@@ -6,7 +6,7 @@ use Rattle.erd_meaning.specs.code.KeyOrders.{rising_positions}
 use Rattle.erd_compare.specs.code.CommonRanks.{AreCommonRanks}
 use Rattle.erd_compare.specs.code.KeyedDifferences.{IsComparable, keys_in_role, role_of_part}
 use Rattle.erd_compare.specs.declared.difference.Part.{Part}
-use Rattle.erd_compare.specs.declared.first.tables.Rising.{Rising}
+use Rattle.erd_compare.specs.declared.first.keyed_ways.Rising.{Rising}
 
 -- The two reports can be compared, and these are the positions of their objects in the part, and the common ranks.
 pub record AreRising (a b : Judged) (p : Part) (rising : Rising) : Type 0 where

@@ -7,8 +7,8 @@ ghost use Rattle.erd_compare.specs.code.RisingParts.{AreRising};
 
 use crate::comparer::Comparer;
 use crate::difference::{Difference, Part};
-use crate::first::tables::{KeyedWays, Rising, rising_in, ways_at};
-use crate::first::told::push_ways;
+use crate::first::key_differences::push_ways;
+use crate::first::keyed_ways::{KeyedWays, Rising, rising_in, ways_at};
 use crate::ranks::role_objects::{key_at, role_of};
 use erd_tables::Role;
 use std::alloc::AllocError;
@@ -48,7 +48,8 @@ pub(crate) fn push_differences(
     part: Part,
     found: &mut Vec<Difference>,
 ) -> Result<(), AllocError>
-    ensures { OnOk result (AppendsDifferences (meaning comparer.now.left.prefer (view comparer.now.left.tree)) (meaning comparer.now.right.prefer (view comparer.now.right.tree)) part found.old.items found.new.items) }
+    ensures { OnOk result (AppendsDifferences (meaning comparer.now.left.prefer (view comparer.now.left.tree))
+        (meaning comparer.now.right.prefer (view comparer.now.right.tree)) part found.old.items found.new.items) }
 {
     let rising = rising_in(comparer, part);
     let mut at = Ranks::start();
@@ -87,8 +88,10 @@ pub(crate) fn next_difference<'a>(
 
 /// Returns the positions of the objects of both reports at these ranks, if they have the same key.
 fn shared_between(rising: Rising, at: Ranks) -> Option<(usize, usize)>
-    ensures fits { IfSome result (λ both. (at.one + 1 < 18446744073709551616) × (at.other + 1 < 18446744073709551616) × (at.one < length rising.entry.ones.now)) }
-    ensures shared { result ≡ shared (slice_get rising.entry.ones.now at.one) (slice_get rising.entry.others.now at.other) (slice_get rising.entry.common.now at.other) at.one }
+    ensures fits { IfSome result (λ both. (at.one + 1 < 18446744073709551616) × (at.other + 1 < 18446744073709551616)
+        × (at.one < length rising.entry.ones.now)) }
+    ensures shared { result ≡ shared (slice_get rising.entry.ones.now at.one) (slice_get rising.entry.others.now at.other)
+        (slice_get rising.entry.common.now at.other) at.one }
 {
     match (
         rising.ones.get(at.one),
@@ -110,7 +113,8 @@ fn one_sided<'a>(
 ) -> Option<KeyedWays<'a>>
     ensures fewer { IfSome result (λ d. ranks_left rising.entry at.new < ranks_left rising.entry at.old) }
     ensures step { TellsStep (option_map (key_in_role comparer.now.left.prefer role (view comparer.now.left.tree)) (slice_get rising.entry.ones.now at.old.one))
-        (option_map (key_in_role comparer.now.right.prefer role (view comparer.now.right.tree)) (slice_get rising.entry.others.now at.old.other)) at.old at.new result }
+        (option_map (key_in_role comparer.now.right.prefer role (view comparer.now.right.tree)) (slice_get rising.entry.others.now at.old.other)) at.old at.new
+        result }
 {
     match (rising.ones.get(at.one), rising.others.get(at.other)) {
         (Some(position), Some(other_position)) => {

@@ -68,7 +68,8 @@ fn ways_of_both<'a>(
 ) -> Result<Ways<'a>, AllocError>
     requires one { IfSome (option_copied one) (IsNamedOn comparer.now.left comparer.now.right side.Left) }
     requires other { IfSome (option_copied other) (IsNamedOn comparer.now.left comparer.now.right side.Right) }
-    ensures { IfOk result (AreWays true (record_named comparer.now.left (option_copied one.entry)) (record_named comparer.now.right (option_copied other.entry))) }
+    ensures { IfOk result (AreWays true (record_named comparer.now.left (option_copied one.entry))
+        (record_named comparer.now.right (option_copied other.entry))) }
 {
     match (one, other) {
         (Some(one), Some(other)) => {

@@ -15,14 +15,15 @@ use erd_tables::Family;
 use std::alloc::AllocError;
 use std::collections::{BTreeMap, BTreeSet};
 
-/// Returns the selections of the contest at a position of the report on a side, by the numbers of their names. If several have the
-/// same name, the first one counts. No position stands for a contest without selections.
+/// Returns the selections of the contest at a position of the report on a side, by the numbers of their names. If several have
+/// the same name, the first one counts. No position stands for a contest without selections.
 pub(crate) fn selections_by_number<'a>(
     comparer: &'a Comparer,
     side: ComparedReport,
     contest: Option<usize>,
 ) -> Result<BTreeMap<usize, NamedSelection<'a>>, AllocError>
-    ensures { IfOk result (λ numbered. AreByNumber comparer.now.left comparer.now.right side (contest_values (on_side side comparer.now.left comparer.now.right) contest) numbered.entries) }
+    ensures { IfOk result (λ numbered. AreByNumber comparer.now.left comparer.now.right side
+        (contest_values (on_side side comparer.now.left comparer.now.right) contest) numbered.entries) }
 {
     let mut numbered = BTreeMap::new(comparer.alloc);
     let Some(position) = contest else {
@@ -43,8 +44,8 @@ pub(crate) fn selections_by_number<'a>(
     Ok(numbered)
 }
 
-/// Returns the selection at a position of the report on a side, with the number of its name, if there is such a selection and it has
-/// a name.
+/// Returns the selection at a position of the report on a side, with the number of its name, if there is such a selection and it
+/// has a name.
 fn selection_at<'a>(
     comparer: &'a Comparer,
     side: ComparedReport,

@@ -60,7 +60,9 @@ impl<'a> PairsLeft<'a> {
         requires callable { (pair : _) → IsPairOf (view self.old.one.now) (view self.old.other.now) pair → F.pre is_same pair }
         ensures stand { StandInPair (view self.old.one.now) (view self.old.other.now) self.new }
         ensures fewer { IfOk result (λ next. IfSome next (λ name. count_left self.new < count_left self.old)) }
-        ensures next { IfOk result (λ next. GoesFrom (λ pair answer. F.post is_same pair (Ok answer)) (view self.old.one.now) (view self.old.other.now) self.old self.new (option_map (λ s. s.now) next)) }
+        ensures next { IfOk result (λ next. GoesFrom (λ pair answer. F.post is_same pair (Ok answer))
+            (view self.old.one.now) (view self.old.other.now) self.old self.new
+            (option_map (λ s. s.now) next)) }
     {
         while let Some(name) = lesser_name(self.ones.first_name(), self.others.first_name()) {
             let pair = MemberPair {

@@ -23,7 +23,8 @@ pub(crate) fn is_same_plain_member(
     pair: MemberPair,
 ) -> Result<bool, AllocError>
     requires whole { IsWholePair pair }
-    ensures { IfOk result (λ answer. Decides answer (plain_found comparer.now.left.prefer (view comparer.now.left.tree) class pair.entry.name.now (option_map (λ v. view v.now) pair.entry.one))
+    ensures { IfOk result (λ answer. Decides answer (plain_found comparer.now.left.prefer (view comparer.now.left.tree) class pair.entry.name.now
+        (option_map (λ v. view v.now) pair.entry.one))
         (plain_found comparer.now.right.prefer (view comparer.now.right.tree) class pair.entry.name.now (option_map (λ v. view v.now) pair.entry.other))) }
 {
     if is_in_envelope(class, pair.name) {
@@ -63,7 +64,8 @@ fn is_same_meant(
     requires one { IsWholeTree (view one.now) }
     requires other { IsWholeTree (view other.now) }
     requires keyed { NamesKeys kind }
-    ensures { IfOk result (λ answer. Decides answer (meant_value comparer.now.left.prefer (view comparer.now.left.tree) kind (view one.now)) (meant_value comparer.now.right.prefer (view comparer.now.right.tree) kind (view other.now))) }
+    ensures { IfOk result (λ answer. Decides answer (meant_value comparer.now.left.prefer (view comparer.now.left.tree) kind (view one.now))
+        (meant_value comparer.now.right.prefer (view comparer.now.right.tree) kind (view other.now))) }
 {
     match kind {
         MemberKind::Label => is_same_label(comparer.alloc, one, other),

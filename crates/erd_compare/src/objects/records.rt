@@ -105,9 +105,12 @@ fn is_same_member(
     other_position: usize,
 ) -> Result<bool, AllocError>
     requires whole { IsWholePair pair }
-    requires one_placed { is_selections (kind_of_member class pair.name.now) ≡ true → AreSelectionsAt comparer.now.left position (option_map (λ v. view v.now) pair.one) }
-    requires other_placed { is_selections (kind_of_member class pair.name.now) ≡ true → AreSelectionsAt comparer.now.right other_position (option_map (λ v. view v.now) pair.other) }
-    ensures { IfOk result (λ answer. Decides answer (member_found comparer.now.left.prefer (view comparer.now.left.tree) class pair.entry.name.now (option_map (λ v. view v.now) pair.entry.one))
+    requires one_placed { is_selections (kind_of_member class pair.name.now) ≡ true → AreSelectionsAt comparer.now.left position
+        (option_map (λ v. view v.now) pair.one) }
+    requires other_placed { is_selections (kind_of_member class pair.name.now) ≡ true → AreSelectionsAt comparer.now.right other_position
+        (option_map (λ v. view v.now) pair.other) }
+    ensures { IfOk result (λ answer. Decides answer (member_found comparer.now.left.prefer (view comparer.now.left.tree) class pair.entry.name.now
+        (option_map (λ v. view v.now) pair.entry.one))
         (member_found comparer.now.right.prefer (view comparer.now.right.tree) class pair.entry.name.now (option_map (λ v. view v.now) pair.entry.other))) }
 {
     if is_selections(member_kind(class, pair.name)) {

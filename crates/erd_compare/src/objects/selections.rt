@@ -36,7 +36,8 @@ pub(crate) fn is_same_selections(
     requires whole { IsWholePair pair }
     requires one_placed { AreSelectionsAt comparer.now.left position (option_map (λ v. view v.now) pair.one) }
     requires other_placed { AreSelectionsAt comparer.now.right other_position (option_map (λ v. view v.now) pair.other) }
-    ensures { IfOk result (λ answer. Decides answer (selections_meant comparer.now.left.prefer (view comparer.now.left.tree) (option_map (λ v. view v.now) pair.entry.one))
+    ensures { IfOk result (λ answer. Decides answer (selections_meant comparer.now.left.prefer (view comparer.now.left.tree)
+        (option_map (λ v. view v.now) pair.entry.one))
         (selections_meant comparer.now.right.prefer (view comparer.now.right.tree) (option_map (λ v. view v.now) pair.entry.other))) }
 {
     match (filled(pair.one), filled(pair.other)) {
@@ -120,7 +121,8 @@ fn by_number<'a>(
 fn is_same_selection(comparer: &Comparer, one: &Value, other: &Value) -> Result<bool, AllocError>
     requires one { IsWholeTree (view one.now) }
     requires other { IsWholeTree (view other.now) }
-    ensures { IfOk result (λ answer. Decides answer (selection_record comparer.now.left.prefer (view comparer.now.left.tree) (view one.now)) (selection_record comparer.now.right.prefer (view comparer.now.right.tree) (view other.now))) }
+    ensures { IfOk result (λ answer. Decides answer (selection_record comparer.now.left.prefer (view comparer.now.left.tree) (view one.now))
+        (selection_record comparer.now.right.prefer (view comparer.now.right.tree) (view other.now))) }
 {
     let role = Role::OfFamily(Family::Selection);
     match (class_of_object(role, one), class_of_object(role, other)) {
@@ -148,7 +150,8 @@ fn is_same_by_members(
     requires other { IsWholeTree (view other.now) }
     requires one_object { IsObject (view one.now) }
     requires other_object { IsObject (view other.now) }
-    ensures { IfOk result (λ answer. Decides answer (plain_member comparer.now.left.prefer (view comparer.now.left.tree) (view one.now) class) (plain_member comparer.now.right.prefer (view comparer.now.right.tree) (view other.now) class)) }
+    ensures { IfOk result (λ answer. Decides answer (plain_member comparer.now.left.prefer (view comparer.now.left.tree) (view one.now) class)
+        (plain_member comparer.now.right.prefer (view comparer.now.right.tree) (view other.now) class)) }
 {
     // a value with a class is an object
     let Some(mut left) = PairsLeft::of(one, other) else {

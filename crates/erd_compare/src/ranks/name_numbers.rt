@@ -62,9 +62,11 @@ fn numbers_of_names<'a>(
     names: &mut SaltedSet<RankedName<&'a SelectionName>>,
 ) -> Result<Vec<Option<usize>>, AllocError>
     ensures names { IfOk result (λ _. map with_ranks names.new.keys
-        ≡ insert_all name_eq (map with_ranks names.old.keys) (filter_map (λ o. name_told common.now side report.now o.value) (objects family.Selection (view report.now.tree)))) }
+        ≡ insert_all name_eq (map with_ranks names.old.keys)
+        (filter_map (λ o. name_told common.now side report.now o.value) (objects family.Selection (view report.now.tree)))) }
     ensures numbers { IfOk result (λ numbers. numbers.items
-        ≡ map (λ o. option_map (λ name. position_or_len (name_eq name) (map with_ranks names.new.keys)) (name_told common.now side report.now o.value)) (objects family.Selection (view report.now.tree))) }
+        ≡ map (λ o. option_map (λ name. position_or_len (name_eq name) (map with_ranks names.new.keys)) (name_told common.now side report.now o.value))
+        (objects family.Selection (view report.now.tree))) }
 {
     let count = report.count(Family::Selection);
     let mut numbers = Vec::with_capacity(alloc, count)?;
@@ -87,7 +89,8 @@ fn name_at<'a>(
     side: ComparedReport,
     position: usize,
 ) -> Result<Option<RankedName<&'a SelectionName>>, AllocError>
-    ensures { IfOk result (λ name. option_map with_ranks name ≡ option_and_then (λ o. name_told common.now side report.now o.value) (slice_get (objects family.Selection (view report.now.tree)) position)) }
+    ensures { IfOk result (λ name. option_map with_ranks name ≡ option_and_then (λ o. name_told common.now side report.now o.value)
+        (slice_get (objects family.Selection (view report.now.tree)) position)) }
 {
     match report.ranked_name_at(position) {
         Some((_, name)) => {

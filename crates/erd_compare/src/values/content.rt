@@ -1,5 +1,6 @@
 ghost use Rattle.std.specs.Prelude.{◌≡◌, true, map, option_and_then};
-ghost use Rattle.erd_compare.specs.Words.{AllByRecursion, Data, as_str, view, Preference, has_keys, text_at, carried_members, no_content, content_of, node_of, contest_node, header_node, class_of_node, is_header_class, key_named, name_named};
+ghost use Rattle.erd_compare.specs.Words.{AllByRecursion, Data, as_str, view, Preference, has_keys, text_at, carried_members, no_content, content_of, node_of};
+ghost use Rattle.erd_compare.specs.Words.{contest_node, header_node, class_of_node, is_header_class, key_named, name_named};
 ghost use Rattle.erd_compare.specs.code.Comparing.{Decides, IsWholeTree};
 ghost use Rattle.erd_compare.specs.code.ContentParts.{content_within, outside_of, plain_node};
 
@@ -17,7 +18,8 @@ use serde_json::Value;
 pub(crate) fn is_same_content(comparer: &Comparer, one: &Value, other: &Value) -> bool
     requires one { IsWholeTree (view one.now) }
     requires other { IsWholeTree (view other.now) }
-    ensures { Decides result (content_of comparer.now.left.prefer (view comparer.now.left.tree) (view one.now)) (content_of comparer.now.right.prefer (view comparer.now.right.tree) (view other.now)) }
+    ensures { Decides result (content_of comparer.now.left.prefer (view comparer.now.left.tree) (view one.now)) (content_of comparer.now.right.prefer
+        (view comparer.now.right.tree) (view other.now)) }
 {
     match one {
         Value::Array(ones) => are_same_nodes(comparer, ones, entries_of(other)),
@@ -50,7 +52,8 @@ fn are_same_nodes(comparer: &Comparer, ones: &Vec<Value>, others: &[Value]) -> b
 fn is_same_node(comparer: &Comparer, one: &Value, other: &Value) -> bool
     requires one { IsWholeTree (view one.now) }
     requires other { IsWholeTree (view other.now) }
-    ensures { Decides result (node_of comparer.now.left.prefer (view comparer.now.left.tree) (view one.now)) (node_of comparer.now.right.prefer (view comparer.now.right.tree) (view other.now)) }
+    ensures { Decides result (node_of comparer.now.left.prefer (view comparer.now.left.tree) (view one.now)) (node_of comparer.now.right.prefer
+        (view comparer.now.right.tree) (view other.now)) }
 {
     // nearly all nodes are contests with the members of the table alone, which are compared without looking a member up
     if let (Some(one), Some(other)) = (plain_contest(one), plain_contest(other)) {
@@ -69,8 +72,10 @@ fn is_same_node(comparer: &Comparer, one: &Value, other: &Value) -> bool
 fn is_same_header(comparer: &Comparer, one: &Value, other: &Value) -> bool
     requires one { IsWholeTree (view one.now) }
     requires other { IsWholeTree (view other.now) }
-    ensures { Decides result (header_node comparer.now.left.prefer (view comparer.now.left.tree) (view one.now) (content_within comparer.now.left.prefer (view comparer.now.left.tree) (view one.now)))
-        (header_node comparer.now.right.prefer (view comparer.now.right.tree) (view other.now) (content_within comparer.now.right.prefer (view comparer.now.right.tree) (view other.now))) }
+    ensures { Decides result (header_node comparer.now.left.prefer (view comparer.now.left.tree) (view one.now)
+        (content_within comparer.now.left.prefer (view comparer.now.left.tree) (view one.now)))
+        (header_node comparer.now.right.prefer (view comparer.now.right.tree) (view other.now)
+        (content_within comparer.now.right.prefer (view comparer.now.right.tree) (view other.now))) }
 {
     is_same_outside(comparer, Family::Header, "HeaderId", one, other)
         && is_same_within(comparer, one, other)
@@ -81,7 +86,8 @@ fn is_same_header(comparer: &Comparer, one: &Value, other: &Value) -> bool
 fn is_same_within(comparer: &Comparer, one: &Value, other: &Value) -> bool
     requires one { IsWholeTree (view one.now) }
     requires other { IsWholeTree (view other.now) }
-    ensures { Decides result (content_within comparer.now.left.prefer (view comparer.now.left.tree) (view one.now)) (content_within comparer.now.right.prefer (view comparer.now.right.tree) (view other.now)) }
+    ensures { Decides result (content_within comparer.now.left.prefer (view comparer.now.left.tree) (view one.now)) (content_within comparer.now.right.prefer
+        (view comparer.now.right.tree) (view other.now)) }
 {
     match (one.get("OrderedContent"), other.get("OrderedContent")) {
         (Some(one), Some(other)) => is_same_content(comparer, one, other),
@@ -102,7 +108,8 @@ fn has_no_content(value: &Value) -> bool
 fn is_same_contest(comparer: &Comparer, one: &Value, other: &Value) -> bool
     requires one { IsWholeTree (view one.now) }
     requires other { IsWholeTree (view other.now) }
-    ensures { Decides result (contest_node comparer.now.left.prefer (view comparer.now.left.tree) (view one.now)) (contest_node comparer.now.right.prefer (view comparer.now.right.tree) (view other.now)) }
+    ensures { Decides result (contest_node comparer.now.left.prefer (view comparer.now.left.tree) (view one.now)) (contest_node comparer.now.right.prefer
+        (view comparer.now.right.tree) (view other.now)) }
 {
     let name = "OrderedContestSelectionIds";
     is_same_outside(comparer, Family::Contest, "ContestId", one, other)
@@ -115,7 +122,8 @@ fn is_same_plain_contest(
     one: PlainContest<'_>,
     other: PlainContest<'_>,
 ) -> bool
-    ensures { Decides result (plain_node comparer.now.left.prefer (view comparer.now.left.tree) one.entry) (plain_node comparer.now.right.prefer (view comparer.now.right.tree) other.entry) }
+    ensures { Decides result (plain_node comparer.now.left.prefer (view comparer.now.left.tree) one.entry) (plain_node comparer.now.right.prefer
+        (view comparer.now.right.tree) other.entry) }
 {
     is_same_target(comparer, Family::Contest, one.contest, other.contest)
         && are_same_names(comparer, one.selections, other.selections)
@@ -169,7 +177,8 @@ fn is_same_outside(
 fn carries_the_same(one: &Value, other: &Value) -> bool
     requires one { IsWholeTree (view one.now) }
     requires other { IsWholeTree (view other.now) }
-    ensures { Decides result (carried_members (class_of_node (view one.now)) (view one.now)) (carried_members (class_of_node (view other.now)) (view other.now)) }
+    ensures { Decides result (carried_members (class_of_node (view one.now)) (view one.now))
+        (carried_members (class_of_node (view other.now)) (view other.now)) }
 {
     is_same_carried(class_of_node(one), one, class_of_node(other), other)
 }

@@ -17,7 +17,8 @@ pub(crate) fn number_of_name_named(
     value: &Value,
 ) -> Option<usize>
     ensures { result ≡ option_map (number_of_name comparer.now.left comparer.now.right)
-        (option_and_then (name_named (on_side side comparer.now.left comparer.now.right).prefer (view (on_side side comparer.now.left comparer.now.right).tree)) (as_str (view value.now))) }
+        (option_and_then (name_named (on_side side comparer.now.left comparer.now.right).prefer (view (on_side side comparer.now.left comparer.now.right).tree))
+        (as_str (view value.now))) }
 {
     let id = value.as_str()?;
     let report = comparer.on(side);

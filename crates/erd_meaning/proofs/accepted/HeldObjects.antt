@@ -1,5 +1,7 @@
 -- In which election an object stands, where in it, and the key of that election.
-use Rattle.erd_meaning.proofs.Common.{◌≡◌, ℕ, zero, suc, ◌+◌, List, [], ◌∷◌, ◌++◌, slice_get, Some, codes, flat_map, option_and_then, sym, refl, ap, ◌∙◌, inl, inr, arith, Data, Step, At, Name, entries_at, Preference, key_of, election_key_in, election_key_of, Placed, placed_from, placed_entries, elections, election_of_place, In, In-flat_map_from}
+use Rattle.erd_meaning.proofs.Common.{◌≡◌, ℕ, zero, suc, ◌+◌, List, [], ◌∷◌, ◌++◌, slice_get, Some, codes, flat_map, option_and_then, sym, refl, ap, ◌∙◌, inl}
+use Rattle.erd_meaning.proofs.Common.{inr, arith, Data, Step, At, Name, entries_at, Preference, key_of, election_key_in, election_key_of, Placed, placed_from}
+use Rattle.erd_meaning.proofs.Common.{placed_entries, elections, election_of_place, In, In-flat_map_from}
 
 -- an object that stands in the array of this name of an election
 pub record HeldObject (t : Data) (name : List ℕ) (o : Placed) : Type 0 where
@@ -12,7 +14,8 @@ pub record HeldObject (t : Data) (name : List ℕ) (o : Placed) : Type 0 where
   pub place : o.place ≡ Name (codes "Election") ∷ At index ∷ Name name ∷ At entry ∷ []
 
 -- the position of an entry is the last step of its place
-entry_placed : (p : List Step) (i : ℕ) (ds : List Data) (o : Placed) → In o (placed_from p i ds) → (j : ℕ) × (slice_get (placed_from p i ds) j ≡ Some o) × (o.place ≡ p ++ At (i + j) ∷ [])
+entry_placed : (p : List Step) (i : ℕ) (ds : List Data) (o : Placed) → In o (placed_from p i ds) → (j : ℕ) × (slice_get (placed_from p i ds) j ≡ Some o)
+    × (o.place ≡ p ++ At (i + j) ∷ [])
 entry_placed p i [] o h = elim h [ ]
 entry_placed p i (d ∷ ds) o h = elim h [
   | inl e ↦ let s : i ≡ i + 0 = omega arith in (zero, ap Some e, sym (ap (λ x. x.place) e) ∙ ap (λ n. p ++ At n ∷ []) s)
@@ -20,7 +23,8 @@ entry_placed p i (d ∷ ds) o h = elim h [
 ]
 
 -- the same of the entries of an array from its first on
-entry_at : (p : List Step) (ds : List Data) (o : Placed) → In o (placed_from p 0 ds) → (j : ℕ) × (slice_get (placed_from p 0 ds) j ≡ Some o) × (o.place ≡ p ++ At j ∷ [])
+entry_at : (p : List Step) (ds : List Data) (o : Placed) → In o (placed_from p 0 ds) → (j : ℕ) × (slice_get (placed_from p 0 ds) j ≡ Some o)
+    × (o.place ≡ p ++ At j ∷ [])
 entry_at p ds o h = let r = entry_placed p 0 ds o h in let s : 0 + r.0 ≡ r.0 = omega arith in (r.0, r.1, r.2 ∙ ap (λ n. p ++ At n ∷ []) s)
 
 -- what stands in an array of an election is held by it
@@ -51,5 +55,6 @@ held_key π t name o h =
     ap (λ p. option_and_then (election_key_in π t) (election_of_place p)) h.place ∙ ap (option_and_then (λ e. key_of π e.value)) h.found
 
 -- the same, where the election is known
-pub held_key_in : (π : Preference) (t : Data) (name : List ℕ) (e o : Placed) → In e (elections t) → In o (placed_entries name e) → election_key_of π t o ≡ key_of π e.value
+pub held_key_in : (π : Preference) (t : Data) (name : List ℕ) (e o : Placed) → In e (elections t) → In o (placed_entries name e)
+    → election_key_of π t o ≡ key_of π e.value
 held_key_in π t name e o h k = let x = held_in t name e o h k in held_key π t name o x.0 ∙ ap (λ (d : Placed). key_of π d.value) x.1

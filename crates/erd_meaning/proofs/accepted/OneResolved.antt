@@ -4,7 +4,8 @@ use Rattle.erd_meaning.specs.code.RanksAmong.{names_of}
 use Rattle.erd_meaning.specs.code.ResolvedIndexes.{AreResolved}
 use Rattle.erd_meaning.specs.declared.report.Indexes.{Indexes}
 
-pub one_resolved : (π : Preference) (tree : Value) (xs : List Indexes) → AreResolved π tree xs → (objects : List Object) × ((names : List NumberedName) × IsResolved π tree objects names)
+pub one_resolved : (π : Preference) (tree : Value) (xs : List Indexes) → AreResolved π tree xs → (objects : List Object)
+    × ((names : List NumberedName) × IsResolved π tree objects names)
 one_resolved π tree [] r = absurd r
 one_resolved π tree (x ∷ []) r = (x.objects.objects, (names_of x.names.keys, r.0))
 one_resolved π tree (x ∷ y ∷ xs) r = absurd r

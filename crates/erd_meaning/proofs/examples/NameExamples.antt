@@ -1,5 +1,7 @@
 -- The keys that identifiers give by preference, and the names of selections, in small reports, by computation.
-use Rattle.erd_meaning.proofs.Common.{◌≡◌, ℕ, Bool, true, false, ◌&&◌, List, [], ◌∷◌, map, ℤ, pos, negsuc, Some, None, codes, Option, is_lt, refl, serde_json_on_literals, Data, family, tree_of, small_ballot, small_ballot_canonical, NameParts, objects, name_of, name_cmp, Key, Preference, key_of}
+use Rattle.erd_meaning.proofs.Common.{◌≡◌, ℕ, Bool, true, false, ◌&&◌, List, [], ◌∷◌, map, ℤ, pos, negsuc, Some, None, codes, Option, is_lt, refl}
+use Rattle.erd_meaning.proofs.Common.{serde_json_on_literals, Data, family, tree_of, small_ballot, small_ballot_canonical, NameParts, objects, name_of}
+use Rattle.erd_meaning.proofs.Common.{name_cmp, Key, Preference, key_of}
 use Rattle.erd_meaning.proofs.examples.RecordExamples.{local_key}
 use Rattle.erd_tables.specs.declared.class.Class.TheVariants as class
 
@@ -22,7 +24,8 @@ abbrev for_one : NameParts
 for_one = for_candidates (local_key (codes "K3") ∷ [])
 
 abbrev yes : NameParts
-yes = with_label (codes "{\"@type\":\"ElectionResults.InternationalizedText\",\"Text\":[{\"@type\":\"ElectionResults.LanguageString\",\"Content\":\"Si\",\"Language\":\"es\"},{\"@type\":\"ElectionResults.LanguageString\",\"Content\":\"Yes\",\"Language\":\"en\"}]}")
+yes = with_label (codes "{\"@type\":\"ElectionResults.InternationalizedText\",\"Text\":[{\"@type\":\"ElectionResults.LanguageString\",\"Content\":\"Si\""
+    ++ codes ",\"Language\":\"es\"},{\"@type\":\"ElectionResults.LanguageString\",\"Content\":\"Yes\",\"Language\":\"en\"}]}")
 
 abbrev no : NameParts
 no = with_label (codes "\"No\"")
@@ -46,17 +49,24 @@ abbrev sequenced : Option ℤ → NameParts
 sequenced order = record write_in_line { order = order }
 
 -- by class, by keys as words, not for a write-in first, by number with none first, by label, by identifier with none first
-names_in_order : rise (no ∷ yes ∷ for_candidates [] ∷ write_in_line ∷ record write_in_line { identifier = Some (local_key (codes "W1")) } ∷ sequenced (Some (pos 2))
-    ∷ sequenced (Some (pos 10)) ∷ for_candidates (local_key (codes "K1") ∷ []) ∷ for_two ∷ for_one ∷ []) ≡ true
+names_in_order : rise (no ∷ yes ∷ for_candidates [] ∷ write_in_line ∷ record write_in_line { identifier = Some (local_key (codes "W1")) }
+    ∷ sequenced (Some (pos 2)) ∷ sequenced (Some (pos 10)) ∷ for_candidates (local_key (codes "K1") ∷ []) ∷ for_two ∷ for_one ∷ []) ≡ true
 names_in_order = refl
 
 -- the six parts of a selection that has them; `IsWriteIn` counts in its own class alone, false is as absent
 parts_of_names : (let t = tree_of small_ballot in map (λ text. name_of None t (tree_of text)) (
-    (codes "{\"@type\":\"ElectionResults.PartySelection\",\"PartyIds\":[\"a3\"],\"IsWriteIn\":true,\"SequenceOrder\":-1,\"Selection\":\"Blue\",\"ExternalIdentifier\":[{\"Type\":\"local-level\",\"Value\":\"W1\"}]}")
+    (codes "{\"@type\":\"ElectionResults.PartySelection\",\"PartyIds\":[\"a3\"],\"IsWriteIn\":true,\"SequenceOrder\":-1,\"Selection\":\"Blue\""
+    ++ codes ",\"ExternalIdentifier\":[{\"Type\":\"local-level\",\"Value\":\"W1\"}]}")
     ∷ (codes "{\"@type\":\"ElectionResults.CandidateSelection\",\"CandidateIds\":[\"a7\"],\"IsWriteIn\":false,\"EndorsementPartyIds\":[\"a3\"]}")
     ∷ (codes "{\"@type\":\"ElectionResults.Candidate\"}") ∷ []))
-    ≡ Some (record { class = class.PartySelection; keys = local_key (codes "P1") ∷ []; write_in = false; order = Some (negsuc 0); label = None; identifier = Some (local_key (codes "W1")) })
-    ∷ Some for_one ∷ None ∷ []
+    ≡ Some (record {
+      class = class.PartySelection;
+      keys = local_key (codes "P1") ∷ [];
+      write_in = false;
+      order = Some (negsuc 0);
+      label = None;
+      identifier = Some (local_key (codes "W1"));
+    }) ∷ Some for_one ∷ None ∷ []
 unfolding serde_json_on_literals
 parts_of_names = refl
 
@@ -73,16 +83,18 @@ keys_under preferences text = map (λ π. key_of π (tree_of text)) preferences
 types_apart : map (keys_under (None ∷ Some (codes "fips") ∷ Some (codes "ocd-id") ∷ Some (codes "state-id") ∷ [])) (
     (codes "{\"ExternalIdentifier\":[{\"Type\":\"fips\",\"Value\":\"20\"},{\"Type\":\"ocd-id\",\"Value\":\"10\"}]}")
     ∷ (codes "{\"ExternalIdentifier\":[{\"Type\":\"ocd-id\",\"Value\":\"10\"},{\"Type\":\"fips\",\"Value\":\"20\"}]}") ∷ [])
-    ≡ (Some (key (codes "fips") [] (codes "20")) ∷ Some (key (codes "fips") [] (codes "20")) ∷ Some (key (codes "ocd-id") [] (codes "10")) ∷ Some (key (codes "fips") [] (codes "20")) ∷ [])
-    ∷ (Some (key (codes "fips") [] (codes "20")) ∷ Some (key (codes "fips") [] (codes "20")) ∷ Some (key (codes "ocd-id") [] (codes "10")) ∷ Some (key (codes "fips") [] (codes "20")) ∷ []) ∷ []
+    ≡ (Some (key (codes "fips") [] (codes "20")) ∷ Some (key (codes "fips") [] (codes "20")) ∷ Some (key (codes "ocd-id") [] (codes "10"))
+    ∷ Some (key (codes "fips") [] (codes "20")) ∷ [])
+    ∷ (Some (key (codes "fips") [] (codes "20")) ∷ Some (key (codes "fips") [] (codes "20")) ∷ Some (key (codes "ocd-id") [] (codes "10"))
+    ∷ Some (key (codes "fips") [] (codes "20")) ∷ []) ∷ []
 unfolding serde_json_on_literals
 types_apart = refl
 
 -- of two entries of the preferred type the lesser, whichever stands first
 two_of_a_type : map (keys_under (None ∷ Some (codes "ocd-id") ∷ [])) (
     (codes "{\"ExternalIdentifier\":[{\"Type\":\"ocd-id\",\"Value\":\"9\"},{\"Type\":\"fips\",\"Value\":\"20\"},{\"Type\":\"ocd-id\",\"Value\":\"10\"}]}")
-    ∷ (codes "{\"ExternalIdentifier\":[{\"Type\":\"ocd-id\",\"Value\":\"10\"},{\"Type\":\"ocd-id\",\"Value\":\"9\"},{\"Type\":\"fips\",\"Value\":\"20\"}]}") ∷ [])
-    ≡ (Some (key (codes "fips") [] (codes "20")) ∷ Some (key (codes "ocd-id") [] (codes "10")) ∷ [])
+    ∷ (codes "{\"ExternalIdentifier\":[{\"Type\":\"ocd-id\",\"Value\":\"10\"},{\"Type\":\"ocd-id\",\"Value\":\"9\"},{\"Type\":\"fips\",\"Value\":\"20\"}]}")
+    ∷ []) ≡ (Some (key (codes "fips") [] (codes "20")) ∷ Some (key (codes "ocd-id") [] (codes "10")) ∷ [])
     ∷ (Some (key (codes "fips") [] (codes "20")) ∷ Some (key (codes "ocd-id") [] (codes "10")) ∷ []) ∷ []
 unfolding serde_json_on_literals
 two_of_a_type = refl
@@ -100,8 +112,10 @@ empty_type = refl
 
 -- `OtherType` does not choose, but orders the entries of one type: a preference of `b` finds no entry of type `other`
 other_types : map (keys_under (None ∷ Some (codes "other") ∷ Some (codes "b") ∷ [])) (
-    (codes "{\"ExternalIdentifier\":[{\"Type\":\"other\",\"OtherType\":\"b\",\"Value\":\"1\"},{\"Type\":\"fips\",\"Value\":\"20\"},{\"Type\":\"other\",\"OtherType\":\"a\",\"Value\":\"2\"}]}")
-    ∷ (codes "{\"ExternalIdentifier\":[{\"Type\":\"other\",\"OtherType\":\"b\",\"Value\":\"1\"},{\"Type\":\"other\",\"OtherType\":\"b\",\"Value\":\"0\"},{\"Type\":\"other\",\"Value\":\"3\"}]}") ∷ [])
+    (codes "{\"ExternalIdentifier\":[{\"Type\":\"other\",\"OtherType\":\"b\",\"Value\":\"1\"},{\"Type\":\"fips\",\"Value\":\"20\"},{\"Type\":\"other\""
+    ++ codes ",\"OtherType\":\"a\",\"Value\":\"2\"}]}")
+    ∷ (codes "{\"ExternalIdentifier\":[{\"Type\":\"other\",\"OtherType\":\"b\",\"Value\":\"1\"},{\"Type\":\"other\",\"OtherType\":\"b\",\"Value\":\"0\"}"
+    ++ codes ",{\"Type\":\"other\",\"Value\":\"3\"}]}") ∷ [])
     ≡ (Some (key (codes "fips") [] (codes "20")) ∷ Some (key (codes "other") (codes "a") (codes "2")) ∷ Some (key (codes "fips") [] (codes "20")) ∷ [])
     ∷ (Some (key (codes "other") [] (codes "3")) ∷ Some (key (codes "other") [] (codes "3")) ∷ Some (key (codes "other") [] (codes "3")) ∷ []) ∷ []
 unfolding serde_json_on_literals
@@ -111,7 +125,7 @@ other_types = refl
 whole_types : map (keys_under (None ∷ Some (codes "fips") ∷ Some (codes "FIPS") ∷ Some (codes "fip") ∷ [])) (
     (codes "{\"ExternalIdentifier\":[{\"Type\":\"FIPS\",\"Value\":\"1\"},{\"Type\":\"fips\",\"Value\":\"2\"},{\"Type\":\"a\",\"Value\":\"3\"}]}")
     ∷ (codes "{\"ExternalIdentifier\":[]}") ∷ (codes "{}") ∷ [])
-    ≡ (Some (key (codes "FIPS") [] (codes "1")) ∷ Some (key (codes "fips") [] (codes "2")) ∷ Some (key (codes "FIPS") [] (codes "1")) ∷ Some (key (codes "FIPS") [] (codes "1")) ∷ [])
-    ∷ (None ∷ None ∷ None ∷ None ∷ []) ∷ (None ∷ None ∷ None ∷ None ∷ []) ∷ []
+    ≡ (Some (key (codes "FIPS") [] (codes "1")) ∷ Some (key (codes "fips") [] (codes "2")) ∷ Some (key (codes "FIPS") [] (codes "1"))
+    ∷ Some (key (codes "FIPS") [] (codes "1")) ∷ []) ∷ (None ∷ None ∷ None ∷ None ∷ []) ∷ (None ∷ None ∷ None ∷ None ∷ []) ∷ []
 unfolding serde_json_on_literals
 whole_types = refl

@@ -1,5 +1,11 @@
 -- What objects of the small ballot mean, in it and in its canonical form, by computation.
-use Rattle.erd_meaning.proofs.Common.{◌≡◌, ℕ, Bool, true, false, not, List, [], ◌∷◌, map, Some, None, codes, filter, Option, option_map, option_and_then, bytes_eq, is_eq, unwrap_or, refl, ap, fun_ext, serde_json_on_literals, Data, null, boolean, string, families, unit_rows, party_rows, person_rows, office_rows, header_rows, candidate_rows, rows_of_class, class, Family, family, kind, Step, At, Name, tree_of, small_ballot, small_ballot_canonical, with_report_member, with_unit_member, entries_of, asked_at, key_cmp, Label, untranslated, Content, no_content, first_node, Node, a_contest, a_header, a_json, a_label, a_key, a_key_set, MemberValue, a_plain, json_set, carried_members, label_beside_text, label_of, content_of, meaning, plain_value, plain_member, selection_record, member_of_class, records_of, name_named, Key}
+use Rattle.erd_meaning.proofs.Common.{◌≡◌, ℕ, Bool, true, false, not, List, [], ◌∷◌, map, Some, None, codes, filter, Option, option_map, option_and_then}
+use Rattle.erd_meaning.proofs.Common.{bytes_eq, is_eq, unwrap_or, refl, ap, fun_ext, serde_json_on_literals, Data, null, boolean, string, families, unit_rows}
+use Rattle.erd_meaning.proofs.Common.{party_rows, person_rows, office_rows, header_rows, candidate_rows, rows_of_class, class, Family, family, kind, Step, At}
+use Rattle.erd_meaning.proofs.Common.{Name, tree_of, small_ballot, small_ballot_canonical, with_report_member, with_unit_member, entries_of, asked_at, key_cmp}
+use Rattle.erd_meaning.proofs.Common.{Label, untranslated, Content, no_content, first_node, Node, a_contest, a_header, a_json, a_label, a_key, a_key_set}
+use Rattle.erd_meaning.proofs.Common.{MemberValue, a_plain, json_set, carried_members, label_beside_text, label_of, content_of, meaning, plain_value}
+use Rattle.erd_meaning.proofs.Common.{plain_member, selection_record, member_of_class, records_of, name_named, Key}
 use Rattle.erd_check.proofs.ValueSets.{or_exchanged}
 use Rattle.erd_meaning.proofs.meanings.WholeMeanings.{record_of_members, value_with_key}
 use Rattle.erd_meaning.proofs.meanings.WholeRecords.{names_in, absent_plain, absent_member, same_at_every_name}
@@ -23,9 +29,12 @@ abbrev mutual
   bare_node (a_header k c carried) = a_header k (bare c) (λ name. None)
 
 -- the header, in it the first contest with its three selections in the order of the ballot, then the second contest
-content_of_the_style : (let t = tree_of small_ballot in bare (content_of None t (value_at t (Name (codes "Election") ∷ At 0 ∷ Name (codes "BallotStyle") ∷ At 0 ∷ Name (codes "OrderedContent") ∷ [])))
+content_of_the_style : (let t = tree_of small_ballot in
+    bare (content_of None t (value_at t (Name (codes "Election") ∷ At 0 ∷ Name (codes "BallotStyle") ∷ At 0 ∷ Name (codes "OrderedContent") ∷ [])))
     ≡ first_node (a_header (Some (local_key (codes "H1")))
-    (first_node (a_contest (Some (local_key (codes "C1"))) (name_named None t (codes "a10") ∷ name_named None t (codes "a9") ∷ name_named None t (codes "a11") ∷ []) (λ name. None)) no_content)
+    (first_node
+    (a_contest (Some (local_key (codes "C1"))) (name_named None t (codes "a10") ∷ name_named None t (codes "a9") ∷ name_named None t (codes "a11") ∷ [])
+    (λ name. None)) no_content)
     (λ name. None))
     (first_node (a_contest (Some (local_key (codes "C2"))) [] (λ name. None)) no_content))
 unfolding serde_json_on_literals
@@ -33,12 +42,16 @@ content_of_the_style = refl
 
 -- the canonical form has the same content, under other `@id` texts
 same_content : (let t = tree_of small_ballot in let u = tree_of small_ballot_canonical in
-    bare (content_of None t (value_at t (Name (codes "Election") ∷ At 0 ∷ Name (codes "BallotStyle") ∷ At 0 ∷ Name (codes "OrderedContent") ∷ []))) ≡ bare (content_of None u (value_at u (Name (codes "Election") ∷ At 0 ∷ Name (codes "BallotStyle") ∷ At 0 ∷ Name (codes "OrderedContent") ∷ []))))
+    bare (content_of None t (value_at t (Name (codes "Election") ∷ At 0 ∷ Name (codes "BallotStyle") ∷ At 0 ∷ Name (codes "OrderedContent") ∷ [])))
+    ≡ bare (content_of None u (value_at u (Name (codes "Election") ∷ At 0 ∷ Name (codes "BallotStyle") ∷ At 0 ∷ Name (codes "OrderedContent") ∷ []))))
 unfolding serde_json_on_literals
 same_content = refl
 
 -- an empty list of selections and of contests is as an absent one; a carried member of a node is kept
-empty_lists : (bare (content_of None null (tree_of (codes "[{\"@type\":\"ElectionResults.OrderedHeader\",\"OrderedContent\":[]},{\"@type\":\"ElectionResults.OrderedContest\",\"OrderedContestSelectionIds\":[]}]")))
+empty_lists : (bare
+    (content_of None null
+    (tree_of (codes
+    "[{\"@type\":\"ElectionResults.OrderedHeader\",\"OrderedContent\":[]},{\"@type\":\"ElectionResults.OrderedContest\",\"OrderedContestSelectionIds\":[]}]")))
     ≡ bare (content_of None null (tree_of (codes "[{\"@type\":\"ElectionResults.OrderedHeader\"},{\"@type\":\"ElectionResults.OrderedContest\"}]"))))
     × (carried_members (Some class.OrderedContest) (tree_of (codes "{\"ContestId\":\"a8\",\"Note\":null}")) (codes "Note") ≡ Some null)
     × (carried_members (Some class.OrderedContest) (tree_of (codes "{\"ContestId\":\"a8\",\"Note\":null}")) (codes "ContestId") ≡ None)
@@ -56,10 +69,15 @@ is_untranslated label = false
 
 -- a header inside another is not the same order of a ballot as its entries beside it; a label of one language is not the text
 -- in it
-other_contents : (begins_with_header (content_of None null (tree_of (codes "[{\"@type\":\"ElectionResults.OrderedHeader\",\"OrderedContent\":[{\"@type\":\"ElectionResults.OrderedHeader\"}]}]"))) ≡ true)
-    × (begins_with_header (content_of None null (tree_of (codes "[{\"@type\":\"ElectionResults.OrderedHeader\",\"OrderedContent\":[{\"@type\":\"ElectionResults.OrderedContest\"}]}]"))) ≡ false)
+other_contents : (begins_with_header
+    (content_of None null
+    (tree_of (codes "[{\"@type\":\"ElectionResults.OrderedHeader\",\"OrderedContent\":[{\"@type\":\"ElectionResults.OrderedHeader\"}]}]"))) ≡ true)
+    × (begins_with_header
+    (content_of None null
+    (tree_of (codes "[{\"@type\":\"ElectionResults.OrderedHeader\",\"OrderedContent\":[{\"@type\":\"ElectionResults.OrderedContest\"}]}]"))) ≡ false)
     × (is_untranslated (label_of (tree_of (codes "\"Yes\""))) ≡ true)
-    × (is_untranslated (label_of (tree_of (codes "{\"@type\":\"ElectionResults.InternationalizedText\",\"Text\":[{\"@type\":\"ElectionResults.LanguageString\",\"Content\":\"Yes\",\"Language\":\"en\"}]}"))) ≡ false)
+    × (is_untranslated (label_of (tree_of (codes "{\"@type\":\"ElectionResults.InternationalizedText\""
+    ++ codes ",\"Text\":[{\"@type\":\"ElectionResults.LanguageString\",\"Content\":\"Yes\",\"Language\":\"en\"}]}"))) ≡ false)
 unfolding serde_json_on_literals
 other_contents = (refl, refl, refl, refl)
 
@@ -80,13 +98,15 @@ record_of_a_candidate = refl
 
 -- under other names and in another order the candidate and the county mean the same, their identifiers too
 same_records : (let t = tree_of small_ballot in let u = tree_of small_ballot_canonical in
-    (members_of t family.Candidate (codes "K1") (codes "ExternalIdentifier" ∷ names_of_candidate) ≡ members_of u family.Candidate (codes "K1") (codes "ExternalIdentifier" ∷ names_of_candidate))
-    × (members_of t family.Unit (codes "U1") (codes "Type" ∷ codes "ComposingGpUnitIds" ∷ codes "ExternalIdentifier" ∷ codes "@id" ∷ []) ≡ members_of u family.Unit (codes "U1") (codes "Type" ∷ codes "ComposingGpUnitIds" ∷ codes "ExternalIdentifier" ∷ codes "@id" ∷ [])))
+    (members_of t family.Candidate (codes "K1") (codes "ExternalIdentifier" ∷ names_of_candidate) ≡ members_of u family.Candidate (codes "K1")
+    (codes "ExternalIdentifier" ∷ names_of_candidate))
+    × (members_of t family.Unit (codes "U1") (codes "Type" ∷ codes "ComposingGpUnitIds" ∷ codes "ExternalIdentifier" ∷ codes "@id" ∷ [])
+    ≡ members_of u family.Unit (codes "U1") (codes "Type" ∷ codes "ComposingGpUnitIds" ∷ codes "ExternalIdentifier" ∷ codes "@id" ∷ [])))
 unfolding serde_json_on_literals
 same_records = (refl, refl)
 
-classes_of_records : (let t = tree_of small_ballot in map (λ k. option_map (λ r. r.class) (records_of None t family.Contest (local_key k))) (codes "C1" ∷ codes "C2" ∷ codes "S1" ∷ []))
-    ≡ Some class.CandidateContest ∷ Some class.BallotMeasureContest ∷ None ∷ []
+classes_of_records : (let t = tree_of small_ballot in map (λ k. option_map (λ r. r.class) (records_of None t family.Contest (local_key k)))
+    (codes "C1" ∷ codes "C2" ∷ codes "S1" ∷ [])) ≡ Some class.CandidateContest ∷ Some class.BallotMeasureContest ∷ None ∷ []
 unfolding serde_json_on_literals
 classes_of_records = refl
 
@@ -94,17 +114,28 @@ classes_of_records = refl
 
 -- the candidates of a selection are the same set in either order
 same_set_of_keys : (let t = tree_of small_ballot in let u = tree_of small_ballot_canonical in
-    plain_value None t (kind.Many family.Candidate) (value_at t (Name (codes "Election") ∷ At 0 ∷ Name (codes "Contest") ∷ At 0 ∷ Name (codes "ContestSelection") ∷ At 0 ∷ Name (codes "CandidateIds") ∷ []))
-    ≡ plain_value None u (kind.Many family.Candidate) (value_at u (Name (codes "Election") ∷ At 0 ∷ Name (codes "Contest") ∷ At 0 ∷ Name (codes "ContestSelection") ∷ At 1 ∷ Name (codes "CandidateIds") ∷ [])))
+    plain_value None t (kind.Many family.Candidate)
+    (value_at t (Name (codes "Election") ∷ At 0 ∷ Name (codes "Contest") ∷ At 0 ∷ Name (codes "ContestSelection") ∷ At 0
+    ∷ Name (codes "CandidateIds") ∷ [])) ≡ plain_value None u (kind.Many family.Candidate)
+    (value_at u (Name (codes "Election") ∷ At 0 ∷ Name (codes "Contest") ∷ At 0 ∷ Name (codes "ContestSelection") ∷ At 1
+    ∷ Name (codes "CandidateIds") ∷ [])))
 unfolding serde_json_on_literals
-same_set_of_keys = ap (λ s. Some (a_key_set s)) (fun_ext (λ k. or_exchanged (is_eq (key_cmp (local_key (codes "K2")) k)) (is_eq (key_cmp (local_key (codes "K1")) k)) false))
+same_set_of_keys =
+    ap (λ s. Some (a_key_set s)) (fun_ext (λ k. or_exchanged (is_eq (key_cmp (local_key (codes "K2")) k)) (is_eq (key_cmp (local_key (codes "K1")) k)) false))
 
 -- the translations of a label are the same set in either order, and nothing stands beside them
 same_translations : (let t = tree_of small_ballot in let u = tree_of small_ballot_canonical in
-    let texts = entries_of (value_at t (Name (codes "Election") ∷ At 0 ∷ Name (codes "Contest") ∷ At 1 ∷ Name (codes "ContestSelection") ∷ At 0 ∷ Name (codes "Selection") ∷ Name (codes "Text") ∷ [])) in
-    let others = entries_of (value_at u (Name (codes "Election") ∷ At 0 ∷ Name (codes "Contest") ∷ At 1 ∷ Name (codes "ContestSelection") ∷ At 1 ∷ Name (codes "Selection") ∷ Name (codes "Text") ∷ [])) in
-    (map (json_set texts) others ≡ true ∷ true ∷ []) × (map (json_set others) texts ≡ true ∷ true ∷ [])
-    × (map (label_beside_text (value_at t (Name (codes "Election") ∷ At 0 ∷ Name (codes "Contest") ∷ At 1 ∷ Name (codes "ContestSelection") ∷ At 0 ∷ Name (codes "Selection") ∷ []))) (codes "@type" ∷ codes "Text" ∷ codes "Note" ∷ []) ≡ None ∷ None ∷ None ∷ []))
+    let texts =
+    entries_of
+    (value_at t (Name (codes "Election") ∷ At 0 ∷ Name (codes "Contest") ∷ At 1 ∷ Name (codes "ContestSelection") ∷ At 0 ∷ Name (codes "Selection")
+    ∷ Name (codes "Text") ∷ [])) in
+    let others =
+    entries_of
+    (value_at u (Name (codes "Election") ∷ At 0 ∷ Name (codes "Contest") ∷ At 1 ∷ Name (codes "ContestSelection") ∷ At 1 ∷ Name (codes "Selection")
+    ∷ Name (codes "Text") ∷ [])) in
+    (map (json_set texts) others ≡ true ∷ true ∷ []) × (map (json_set others) texts ≡ true ∷ true ∷ []) × (map (label_beside_text
+    (value_at t (Name (codes "Election") ∷ At 0 ∷ Name (codes "Contest") ∷ At 1 ∷ Name (codes "ContestSelection") ∷ At 0 ∷ Name (codes "Selection") ∷ [])))
+    (codes "@type" ∷ codes "Text" ∷ codes "Note" ∷ []) ≡ None ∷ None ∷ None ∷ []))
 unfolding serde_json_on_literals
 same_translations = (refl, refl, refl)
 
@@ -146,15 +177,16 @@ report_members t names = map (λ name. option_and_then (λ r. r.members name) (m
 
 -- the envelope, the elections, the keyed arrays and empty outside members are not; `Status` and carried members are
 members_of_the_report : report_members (tree_of (with_report_member (codes "\"IsTest\":false,\"Issuer\":\"Vendor A\",\"OfficeGroup\":[],\"Note\":[]")))
-    (codes "Status" ∷ codes "IsTest" ∷ codes "TestType" ∷ codes "Issuer" ∷ codes "ExternalIdentifier" ∷ codes "Election" ∷ codes "GpUnit" ∷ codes "OfficeGroup" ∷ codes "@type" ∷ codes "Note" ∷ [])
+    (codes "Status" ∷ codes "IsTest" ∷ codes "TestType" ∷ codes "Issuer" ∷ codes "ExternalIdentifier" ∷ codes "Election" ∷ codes "GpUnit" ∷ codes "OfficeGroup"
+    ∷ codes "@type" ∷ codes "Note" ∷ [])
     ≡ Some (a_plain (a_json (string (codes "pre-election")))) ∷ Some (a_plain (a_json (boolean false))) ∷ None ∷ None ∷ None ∷ None ∷ None ∷ None ∷ None
     ∷ Some (a_plain (a_json (tree_of (codes "[]")))) ∷ []
 unfolding serde_json_on_literals
 members_of_the_report = refl
 
 -- an empty array of the table is as an absent one, a carried one is not
-empty_arrays : members_of (tree_of (with_unit_member (codes "\"ComposingGpUnitIds\":[],\"Text\":[]"))) family.Unit (codes "U1") (codes "ComposingGpUnitIds" ∷ codes "AuthorityIds" ∷ codes "Text" ∷ [])
-    ≡ None ∷ None ∷ Some (a_plain (a_json (tree_of (codes "[]")))) ∷ []
+empty_arrays : members_of (tree_of (with_unit_member (codes "\"ComposingGpUnitIds\":[],\"Text\":[]"))) family.Unit (codes "U1")
+    (codes "ComposingGpUnitIds" ∷ codes "AuthorityIds" ∷ codes "Text" ∷ []) ≡ None ∷ None ∷ Some (a_plain (a_json (tree_of (codes "[]")))) ∷ []
 unfolding serde_json_on_literals
 empty_arrays = refl
 
@@ -167,7 +199,11 @@ keys_and_names family.Person = (codes "Q1" ∷ [], map (λ row. row.name) person
 keys_and_names family.Office = (codes "O1" ∷ [], map (λ row. row.name) office_rows)
 keys_and_names family.Header = (codes "H1" ∷ [], map (λ row. row.name) header_rows)
 keys_and_names family.Candidate = (codes "K1" ∷ codes "K2" ∷ codes "K3" ∷ codes "K4" ∷ [], map (λ row. row.name) candidate_rows)
-keys_and_names family.Contest = (codes "C1" ∷ codes "C2" ∷ [], filter (λ name. not (bytes_eq name (codes "ContestSelection"))) (map (λ row. row.name) (rows_of_class class.CandidateContest)))
+keys_and_names family.Contest = (
+  codes "C1" ∷ codes "C2" ∷ [],
+  filter (λ name. not (bytes_eq name (codes "ContestSelection")))
+      (map (λ row. row.name) (rows_of_class class.CandidateContest)),
+)
 keys_and_names family.Style = (codes "S1" ∷ [], codes "GpUnitIds" ∷ codes "PartyIds" ∷ codes "ExternalIdentifier" ∷ [])
 keys_and_names family.Selection = ([], [])
 

@@ -1,13 +1,21 @@
 -- Whole reports that are accepted, and others that are refused with the list of all their faults, by computation.
-use Rattle.erd_meaning.proofs.Common.{◌≡◌, ℕ, List, length, None, refl, serde_json_on_literals, tree_of, small_ballot, small_ballot_canonical, one_unit, two_elections, three_contests, IsAccepted, [], ◌∷◌, ◌++◌, codes, Data, ListsAll, Fault, Reason, NoIdentifier, SelectionOfOtherContest, TwinIdentifier, TwinSelection, Unresolved, WrongFamily, Step, At, Name, tree_sound, no_fault_listed, small_ballot_with, header_node, contest_node, election, with_election_member, report_of_two, two_elections_with, fault_at, IsFault}
-use Rattle.erd_check.proofs.WholeExamples.{IsFaultless, one_unit_is_faultless, small_ballot_is_faultless, small_ballot_canonical_is_faultless, three_contests_is_faultless, two_elections_is_faultless, faulty, faulty_faults, faulty_has_all, no_election, no_election_faults, no_election_has_all}
+use Rattle.erd_meaning.proofs.Common.{◌≡◌, ℕ, List, length, None, refl, serde_json_on_literals, tree_of, small_ballot, small_ballot_canonical, one_unit}
+use Rattle.erd_meaning.proofs.Common.{two_elections, three_contests, IsAccepted, [], ◌∷◌, ◌++◌, codes, Data, ListsAll, Fault, Reason, NoIdentifier}
+use Rattle.erd_meaning.proofs.Common.{SelectionOfOtherContest, TwinIdentifier, TwinSelection, Unresolved, WrongFamily, Step, At, Name, tree_sound}
+use Rattle.erd_meaning.proofs.Common.{no_fault_listed, small_ballot_with, header_node, contest_node, election, with_election_member, report_of_two}
+use Rattle.erd_meaning.proofs.Common.{two_elections_with, fault_at, IsFault}
+use Rattle.erd_check.proofs.WholeExamples.{IsFaultless, one_unit_is_faultless, small_ballot_is_faultless, small_ballot_canonical_is_faultless}
+use Rattle.erd_check.proofs.WholeExamples.{three_contests_is_faultless, two_elections_is_faultless, faulty, faulty_faults, faulty_has_all, no_election}
+use Rattle.erd_check.proofs.WholeExamples.{no_election_faults, no_election_has_all}
 use Rattle.erd_meaning.proofs.identity.IdentityFaults.{identity_told}
 use Rattle.erd_meaning.proofs.refused.Refused.{accepted_by_lists, refused_by_shape, refused_by_identity, refused_by_references, refused_by_selections}
 use Rattle.erd_meaning.proofs.references.ReferenceWalks.{reference_faults}
 use Rattle.erd_meaning.proofs.selections.NamesTold.{selections_told}
 
-accepted_by_tests : (text : List ℕ) → IsFaultless text → length (identity_told None (tree_of text)) ≡ 0 → length (reference_faults (tree_of text)) ≡ 0 → length (selections_told None (tree_of text)) ≡ 0 → IsAccepted None (tree_of text)
-accepted_by_tests text faultless identity references selections = accepted_by_lists None (tree_of text) faultless.tree faultless.none identity references selections
+accepted_by_tests : (text : List ℕ) → IsFaultless text → length (identity_told None (tree_of text)) ≡ 0 → length (reference_faults (tree_of text)) ≡ 0
+    → length (selections_told None (tree_of text)) ≡ 0 → IsAccepted None (tree_of text)
+accepted_by_tests text faultless identity references selections =
+    accepted_by_lists None (tree_of text) faultless.tree faultless.none identity references selections
 
 pub one_unit_is_accepted : IsAccepted None (tree_of one_unit)
 unfolding serde_json_on_literals
@@ -83,7 +91,8 @@ abbrev strange_entries : Data
 strange_entries = tree_of (small_ballot_with (codes "K3") strange_node)
 
 abbrev strange_entry : ℕ → List Step
-strange_entry i = Name (codes "Election") ∷ At 0 ∷ Name (codes "BallotStyle") ∷ At 0 ∷ Name (codes "OrderedContent") ∷ At 0 ∷ Name (codes "OrderedContestSelectionIds") ∷ At i ∷ []
+strange_entry i = Name (codes "Election") ∷ At 0 ∷ Name (codes "BallotStyle") ∷ At 0 ∷ Name (codes "OrderedContent") ∷ At 0
+    ∷ Name (codes "OrderedContestSelectionIds") ∷ At i ∷ []
 
 abbrev of_other_contest : Fault
 of_other_contest = fault_at (strange_entry 0) SelectionOfOtherContest
@@ -100,7 +109,10 @@ strange_entries_refused =
 -- ---- selections: a contest with two lines for write-ins
 
 abbrev two_write_ins : Data
-two_write_ins = tree_of (with_election_member (codes "\"Contest\":[{\"@id\":\"c1\",\"@type\":\"ElectionResults.CandidateContest\",\"Name\":\"Mayor\",\"ElectionDistrictId\":\"u7\",\"VotesAllowed\":2,\"ExternalIdentifier\":[{\"@type\":\"ElectionResults.ExternalIdentifier\",\"Type\":\"local-level\",\"Value\":\"C1\"}],\"ContestSelection\":[{\"@id\":\"s1\",\"@type\":\"ElectionResults.CandidateSelection\",\"IsWriteIn\":true},{\"@id\":\"s2\",\"@type\":\"ElectionResults.CandidateSelection\",\"IsWriteIn\":true}]}]"))
+two_write_ins = tree_of (with_election_member (codes "\"Contest\":[{\"@id\":\"c1\",\"@type\":\"ElectionResults.CandidateContest\",\"Name\":\"Mayor\""
+    ++ codes ",\"ElectionDistrictId\":\"u7\",\"VotesAllowed\":2,\"ExternalIdentifier\":[{\"@type\":\"ElectionResults.ExternalIdentifier\""
+    ++ codes ",\"Type\":\"local-level\",\"Value\":\"C1\"}],\"ContestSelection\":[{\"@id\":\"s1\",\"@type\":\"ElectionResults.CandidateSelection\""
+    ++ codes ",\"IsWriteIn\":true},{\"@id\":\"s2\",\"@type\":\"ElectionResults.CandidateSelection\",\"IsWriteIn\":true}]}]"))
 
 -- the second of them
 abbrev second_write_in : Fault

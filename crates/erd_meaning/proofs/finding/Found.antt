@@ -1,5 +1,12 @@
 -- What is found by a key, by an `@id` or by a name is what has it.
-use Rattle.erd_meaning.proofs.Common.{◌≡◌, ℕ, true, List, map, slice_get, Some, None, Option, option_map, position, option_and_then, is_eq, sym, refl, ap, ◌∙◌, subst, ap₂, and_parts, and_from, tied_itself, same_Some, some_pair_parts, bytes_eq-Decides, Data, view, Value, family_number, Family, In, In-filter, NoneOf, Preference, IdentityFault, key_in, id_in, FindsKey, FindsId, rank, number_at, number_of_id, number_of_key, is_of_family, those_of, is_keyed, keeps_id, Kept, kept_objects, same_key, same_id, key_cmp_total, IsResolved, NumberedName, shown, Key, Object, and_then-Some, ◌+◌, Bool, false, cond, [], ◌∷◌, ◌++◌, length, ◌==◌, find, append_snoc, position_from-zero, length_push, position_from, number_among, object_among, inl, inr, cases_Bool, cond_both, ◌<◌, cases_order, slice_get-map, TwinIdentifier, contains_from_In, IsStrictlySortedBy-filter, key_of, IsBefore, Placed, elections, has_several, located_election, all_located, role, in_at}
+use Rattle.erd_meaning.proofs.Common.{◌≡◌, ℕ, true, List, map, slice_get, Some, None, Option, option_map, position, option_and_then, is_eq, sym, refl, ap, ◌∙◌}
+use Rattle.erd_meaning.proofs.Common.{subst, ap₂, and_parts, and_from, tied_itself, same_Some, some_pair_parts, bytes_eq-Decides, Data, view, Value}
+use Rattle.erd_meaning.proofs.Common.{family_number, Family, In, In-filter, NoneOf, Preference, IdentityFault, key_in, id_in, FindsKey, FindsId, rank}
+use Rattle.erd_meaning.proofs.Common.{number_at, number_of_id, number_of_key, is_of_family, those_of, is_keyed, keeps_id, Kept, kept_objects, same_key, same_id}
+use Rattle.erd_meaning.proofs.Common.{key_cmp_total, IsResolved, NumberedName, shown, Key, Object, and_then-Some, ◌+◌, Bool, false, cond, [], ◌∷◌, ◌++◌, length}
+use Rattle.erd_meaning.proofs.Common.{◌==◌, find, append_snoc, position_from-zero, length_push, position_from, number_among, object_among, inl, inr, cases_Bool}
+use Rattle.erd_meaning.proofs.Common.{cond_both, ◌<◌, cases_order, slice_get-map, TwinIdentifier, contains_from_In, IsStrictlySortedBy-filter, key_of, IsBefore}
+use Rattle.erd_meaning.proofs.Common.{Placed, elections, has_several, located_election, all_located, role, in_at}
 use Rattle.erd_meaning.specs.code.OwnIds.{HaveOwnIds}
 use Rattle.erd_meaning.proofs.finding.OneObject.{hit, missed, one_id, one_key, kept_part, part_at, ranked, sorted_at}
 use Rattle.erd_meaning.proofs.identity.IdentityFaults.{same_id_from, same_key_from, repeats_key}
@@ -76,7 +83,8 @@ finds_kept_id π t id none = at (position (keeps_id id) (kept_objects π t)) ref
         let found : number_at ks n ≡ Some (f, i) = ap (option_map {U = Family × ℕ} (λ (k : Kept). (k.family, rank k.family ks n))) h.at in
         let same = same_id_from h.one.id (Some id) h.passes in
         let here : id_in f t i ≡ Some id =
-        sym (kept_part π (λ k. k.id) f t i) ∙ ap (option_and_then (λ (k : Kept). k.id)) (ranked f ks n h.one h.at (itself (family_number f))) ∙ same.1 ∙ sym same.2 in (
+        sym (kept_part π (λ k. k.id) f t i) ∙ ap (option_and_then (λ (k : Kept). k.id)) (ranked f ks n h.one h.at (itself (family_number f)))
+        ∙ same.1 ∙ sym same.2 in (
           λ named.
               let parts = some_pair_parts f g i j (sym found ∙ named) in
               subst (λ m. id_in g t m ≡ Some id) parts.1 (subst (λ f. id_in f t i ≡ Some id) parts.0 here),
@@ -125,7 +133,8 @@ first ks id g i e =
     let n = r.0 in
     let there = hit (keeps_id id) ks n r.1 in
     let k = there.one in
-    let number : number_at ks n ≡ Some (k.family, rank k.family ks n) = ap (option_map {U = Family × ℕ} (λ (k : Kept). (k.family, rank k.family ks n))) there.at in
+    let number : number_at ks n ≡ Some (k.family, rank k.family ks n) =
+    ap (option_map {U = Family × ℕ} (λ (k : Kept). (k.family, rank k.family ks n))) there.at in
     let parts = some_pair_parts k.family g (rank k.family ks n) i (sym number ∙ r.2) in
     record {
       one = k;
@@ -147,14 +156,18 @@ with_id_none ks f id e = ap (option_and_then (of_family f)) (find_at (keeps_id i
     at (Some n) is h =
         let there = hit (keeps_id id) ks n is in
         let k = there.one in
-        let number : number_at ks n ≡ Some (k.family, rank k.family ks n) = ap (option_map {U = Family × ℕ} (λ (k : Kept). (k.family, rank k.family ks n))) there.at in
+        let number : number_at ks n ≡ Some (k.family, rank k.family ks n) =
+        ap (option_map {U = Family × ℕ} (λ (k : Kept). (k.family, rank k.family ks n))) there.at in
         nothing (sym number ∙ h)
 
-among_one : (ks : List Kept) (f g : Family) (id : List ℕ) (i : ℕ) (h : First ks id g i) (b : Bool) → (family_number g == family_number f) ≡ b → object_among ks f id ≡ cond b (Some h.one) None
+among_one : (ks : List Kept) (f g : Family) (id : List ℕ) (i : ℕ) (h : First ks id g i) (b : Bool) → (family_number g == family_number f) ≡ b
+    → object_among ks f id ≡ cond b (Some h.one) None
 unfolding of_family
-among_one ks f g id i h b e = ap (option_and_then (of_family f)) h.found ∙ ap (λ c. cond c (Some h.one) None) (ap (λ j. family_number j == family_number f) h.family ∙ e)
+among_one ks f g id i h b e = ap (option_and_then (of_family f)) h.found ∙ ap (λ c. cond c (Some h.one) None)
+    (ap (λ j. family_number j == family_number f) h.family ∙ e)
 
-pub with_id_of_other : (ks : List Kept) (f g : Family) (id : List ℕ) (i : ℕ) → number_of_id ks id ≡ Some (g, i) → (family_number g == family_number f) ≡ false → object_among ks f id ≡ None
+pub with_id_of_other : (ks : List Kept) (f g : Family) (id : List ℕ) (i : ℕ) → number_of_id ks id ≡ Some (g, i) → (family_number g == family_number f) ≡ false
+    → object_among ks f id ≡ None
 with_id_of_other ks f g id i e other = among_one ks f g id i (first ks id g i e) false other
 
 pub with_id_of_family : (ks : List Kept) (f g : Family) (id : List ℕ) (i : ℕ) → number_of_id ks id ≡ Some (g, i) → (family_number g == family_number f) ≡ true
@@ -163,7 +176,8 @@ with_id_of_family ks f g id i e same =
     let h = first ks id g i e in
     ap (λ (j : Family). slice_get (those_of j ks) i) (sym (family_exact g f same)) ∙ h.place ∙ sym (among_one ks f g id i h true same)
 
-pub with_id_some : (ks : List Kept) (f g : Family) (id : List ℕ) (i : ℕ) → number_of_id ks id ≡ Some (g, i) → (family_number g == family_number f) ≡ true → (k : Kept) × (object_among ks f id ≡ Some k)
+pub with_id_some : (ks : List Kept) (f g : Family) (id : List ℕ) (i : ℕ) → number_of_id ks id ≡ Some (g, i) → (family_number g == family_number f) ≡ true
+    → (k : Kept) × (object_among ks f id ≡ Some k)
 with_id_some ks f g id i e same =
     let h = first ks id g i e in
     (h.one, among_one ks f g id i h true same)
@@ -173,7 +187,8 @@ pub object_numbered : (ks : List Kept) (f : Family) (id : List ℕ) → option_a
 object_numbered ks f id = at (number_of_id ks id) refl
   where
     at : (o : Option (Family × ℕ)) → number_of_id ks id ≡ o
-        → option_and_then (slice_get (those_of f ks)) (option_and_then (λ n. cond (family_number n.0 == family_number f) (Some n.1) None) o) ≡ object_among ks f id
+        → option_and_then (slice_get (those_of f ks)) (option_and_then (λ n. cond (family_number n.0 == family_number f) (Some n.1) None) o)
+        ≡ object_among ks f id
     at None is = sym (with_id_none ks f id is)
     at (Some n) is =
         cond_both (family_number n.0 == family_number f) (Some n.1) None (λ o. option_and_then (slice_get (those_of f ks)) o ≡ object_among ks f id)
@@ -192,14 +207,15 @@ module _ (π : Preference) (t : Data) where
       let here = λ (k : ℕ) (o : Placed) (is : slice_get (elections t) k ≡ Some o). slice_get-map one (elections t) k ∙ ap (option_map one) is in
       before_apart (one d) (one e) (sorted_at apart (map one (elections t)) i j (one d) (one e) elections_apart less (here i d at) (here j e there))
 
-  two_keys : (none : NoneOf (IdentityFault π t)) (i j : ℕ) (d e : Placed) (k : Key) → slice_get (elections t) i ≡ Some d → slice_get (elections t) j ≡ Some e → i < j
-      → key_of π d.value ≡ Some k → key_of π e.value ≡ Some k → ⊥
+  two_keys : (none : NoneOf (IdentityFault π t)) (i j : ℕ) (d e : Placed) (k : Key) → slice_get (elections t) i ≡ Some d
+      → slice_get (elections t) j ≡ Some e → i < j → key_of π d.value ≡ Some k → key_of π e.value ≡ Some k → ⊥
   two_keys none i j d e k at there less mine its = none e.place TwinIdentifier
-      (repeats_key π t role.Election e d k refl (contains_from_In e (elections t) (in_at (elections t) j e there)) (contains_from_In d (elections t) (in_at (elections t) i d at)) (elections_before i j d e at there less) its mine)
+      (repeats_key π t role.Election e d k refl (contains_from_In e (elections t) (in_at (elections t) j e there))
+      (contains_from_In d (elections t) (in_at (elections t) i d at)) (elections_before i j d e at there less) its mine)
 
   -- elections with one key stand at one position
-  pub one_election_key : NoneOf (IdentityFault π t) → (i j : ℕ) (d e : Placed) (k : Key) → slice_get (elections t) i ≡ Some d → slice_get (elections t) j ≡ Some e
-      → key_of π d.value ≡ Some k → key_of π e.value ≡ Some k → i ≡ j
+  pub one_election_key : NoneOf (IdentityFault π t) → (i j : ℕ) (d e : Placed) (k : Key) → slice_get (elections t) i ≡ Some d
+      → slice_get (elections t) j ≡ Some e → key_of π d.value ≡ Some k → key_of π e.value ≡ Some k → i ≡ j
   one_election_key none i j d e k at there mine its = elim (cases_order i j) [
     | inl same ↦ same
     | inr (inl l) ↦ absurd (two_keys none i j d e k at there l mine its)

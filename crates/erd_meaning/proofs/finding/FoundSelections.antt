@@ -1,5 +1,6 @@
 -- What is found of the selections of a report by position, and by contest and name.
-use Rattle.erd_meaning.proofs.Common.{◌≡◌, ℕ, List, Some, None, Option, position, sym, ap, ◌∙◌, subst, same_Some, view, Value, Preference, selection_in, FindsSelection, NameParts, IsResolved, NumberedName, is_selection_named, Object, in_at}
+use Rattle.erd_meaning.proofs.Common.{◌≡◌, ℕ, List, Some, None, Option, position, sym, ap, ◌∙◌, subst, same_Some, view, Value, Preference, selection_in}
+use Rattle.erd_meaning.proofs.Common.{FindsSelection, NameParts, IsResolved, NumberedName, is_selection_named, Object, in_at}
 use Rattle.erd_meaning.proofs.selections.NamesTold.{is_named_from, is_named_itself}
 use Rattle.erd_meaning.proofs.finding.OneObject.{hit, missed}
 use Rattle.erd_meaning.proofs.selections.WalkedNames.{one_selection}

@@ -1,5 +1,9 @@
 -- What earlier objects have is what the indexes know.
-use Rattle.erd_meaning.proofs.Common.{◌≡◌, ℕ, ◌+◌, Bool, true, false, cond, ◌&&◌, List, [], ◌∷◌, length, is_some, ◌==◌, Some, None, Option, option_map, position, option_and_then, is_eq, sym, refl, ap, ◌∙◌, ap₂, Bor, and-false, Decides-eqb, tied_itself, position_from-zero, Equal-is, both_ways, list_any, position_from, option_map_or, family_number, Family, key_cmp, same_owned, rank, number_at, number_of_id, number_of_key, those_of, is_keyed, keeps_id, Kept, same_key, same_id, has_same_key, has_same_id, key_cmp_total, key_cmp_exact, Key, inl, inr, cases_Bool, arith}
+use Rattle.erd_meaning.proofs.Common.{◌≡◌, ℕ, ◌+◌, Bool, true, false, cond, ◌&&◌, List, [], ◌∷◌, length, is_some, ◌==◌, Some, None, Option, option_map}
+use Rattle.erd_meaning.proofs.Common.{position, option_and_then, is_eq, sym, refl, ap, ◌∙◌, ap₂, Bor, and-false, Decides-eqb, tied_itself, position_from-zero}
+use Rattle.erd_meaning.proofs.Common.{Equal-is, both_ways, list_any, position_from, option_map_or, family_number, Family, key_cmp, same_owned, rank, number_at}
+use Rattle.erd_meaning.proofs.Common.{number_of_id, number_of_key, those_of, is_keyed, keeps_id, Kept, same_key, same_id, has_same_key, has_same_id}
+use Rattle.erd_meaning.proofs.Common.{key_cmp_total, key_cmp_exact, Key, inl, inr, cases_Bool, arith}
 use Rattle.erd_meaning.proofs.finding.OneObject.{hit}
 use Rattle.erd_meaning.proofs.finding.Pushed.{owned_exact}
 use Rattle.erd_meaning.proofs.references.ReferenceLookups.{text_same}
@@ -75,15 +79,20 @@ same_key_known ks k key e =
 no_key_known : (ks : List Kept) (k : Kept) → k.key ≡ None → list_any (has_same_key k) ks ≡ false
 no_key_known ks k e =
     ap (λ (test : Kept → Bool). list_any test ks)
-    (λ i j. (ap (λ o. (family_number k.family == family_number j.family) && same_key o j.key) e ∙ and-false (family_number k.family == family_number j.family)) i) ∙ any_none ks
+    (λ i j. (ap (λ o. (family_number k.family == family_number j.family) && same_key o j.key) e ∙ and-false (family_number k.family == family_number j.family))
+    i) ∙ any_none ks
 
 -- what is noted of a key is what is found of it
 noted_key : (ks : List Kept) (k : Kept) (f : Family) (key l : Key) → k.key ≡ Some l
     → cond (same_owned (f, key) (k.family, l)) (Some (length (those_of k.family ks))) None ≡ cond (is_keyed f key k) (Some (length (those_of f ks))) None
 noted_key ks k f key l e =
-    elim (cases_Bool (same_owned (f, key) (k.family, l))) [ inl is ↦ ap (λ g. cond (same_owned (f, key) (k.family, l)) (Some (length (those_of g ks))) None) (sym (owned_exact f k.family key l is).0) | inr is ↦ rw is refl ]
-    ∙ ap (λ b. cond b (Some (length (those_of f ks))) None)
-    (ap₂ (λ a b. a && b) (number_swap (family_number f) (family_number k.family)) (keys_swap key l) ∙ ap (λ o. (family_number k.family == family_number f) && same_key o (Some key)) (sym e))
+    elim (cases_Bool (same_owned (f, key) (k.family, l))) [
+      | inl is ↦ ap (λ g. cond (same_owned (f, key) (k.family, l)) (Some (length (those_of g ks))) None)
+          (sym (owned_exact f k.family key l is).0)
+      | inr is ↦ rw is refl
+    ] ∙ ap (λ b. cond b (Some (length (those_of f ks))) None)
+    (ap₂ (λ a b. a && b) (number_swap (family_number f) (family_number k.family)) (keys_swap key l)
+    ∙ ap (λ o. (family_number k.family == family_number f) && same_key o (Some key)) (sym e))
 
 not_keyed : (k : Kept) (f : Family) (key : Key) → k.key ≡ None → is_keyed f key k ≡ false
 not_keyed k f key e = ap (λ o. (family_number k.family == family_number f) && same_key o (Some key)) e ∙ and-false (family_number k.family == family_number f)
@@ -91,11 +100,13 @@ not_keyed k f key e = ap (λ o. (family_number k.family == family_number f) && s
 -- ---- where there may be none
 
 pub noted_any : (ks : List Kept) (k : Kept) (f : Family) (key : Key) (o : Option Key) → k.key ≡ o
-    → option_map_or (λ l. cond (same_owned (f, key) (k.family, l)) (Some (length (those_of k.family ks))) None) o None ≡ cond (is_keyed f key k) (Some (length (those_of f ks))) None
+    → option_map_or (λ l. cond (same_owned (f, key) (k.family, l)) (Some (length (those_of k.family ks))) None) o None ≡ cond (is_keyed f key k)
+    (Some (length (those_of f ks))) None
 noted_any ks k f key None e = ap (λ b. cond b (Some (length (those_of f ks))) None) (sym (not_keyed k f key e))
 noted_any ks k f key (Some l) e = noted_key ks k f key l e
 
-pub has_key_known : (ks : List Kept) (k : Kept) (o : Option Key) → k.key ≡ o → list_any (has_same_key k) ks ≡ option_map_or (λ l. is_some (number_of_key ks k.family l)) o false
+pub has_key_known : (ks : List Kept) (k : Kept) (o : Option Key) → k.key ≡ o → list_any (has_same_key k) ks
+    ≡ option_map_or (λ l. is_some (number_of_key ks k.family l)) o false
 has_key_known ks k None e = no_key_known ks k e
 has_key_known ks k (Some l) e = same_key_known ks k l e
 

@@ -1,5 +1,13 @@
 -- What names an object names one object: its family and position, its key in its family, its `@id` in the report.
-use Rattle.erd_meaning.proofs.Common.{◌≡◌, ℕ, zero, suc, ◌+◌, ◌<◌, Bool, true, ◌⊎◌, List, [], ◌∷◌, length, slice_get, Some, None, Option, option_map, position, option_and_then, Ordering, Less, sym, refl, ap, ◌∙◌, subst, inl, inr, arith, cases_order, position_from-zero, slice_get-map, position_from, IsStrictlySortedBy, Data, place_cmp, Family, role, DuplicateId, TwinIdentifier, In, contains_from_In, In-all, IsStrictlySortedBy-filter, NoneOf, Preference, key_of_family_object, IdentityFault, key_in, id_in, Placed, objects, id_of, Met, an_object, an_election, Located, located_one, located, all_located, Key, cases_Bool, and_then-Some, ◌^◌, ◌≤◌, false, cond, map, count_by, length-map, view, Value, IsBounded, rank, is_of_family, those_of, Kept, objects_among, kept_objects, IsResolved, NumberedName, shown, Object, ◌&&◌, ◌==◌, find, family_number, In-filter_kept, keeps_id, object_among, and_left, and_right, true≢false, some_pair_parts, position_of, FindsId, has_id, owner_at, kept, any_at, in_at}
+use Rattle.erd_meaning.proofs.Common.{◌≡◌, ℕ, zero, suc, ◌+◌, ◌<◌, Bool, true, ◌⊎◌, List, [], ◌∷◌, length, slice_get, Some, None, Option, option_map, position}
+use Rattle.erd_meaning.proofs.Common.{option_and_then, Ordering, Less, sym, refl, ap, ◌∙◌, subst, inl, inr, arith, cases_order, position_from-zero}
+use Rattle.erd_meaning.proofs.Common.{slice_get-map, position_from, IsStrictlySortedBy, Data, place_cmp, Family, role, DuplicateId, TwinIdentifier, In}
+use Rattle.erd_meaning.proofs.Common.{contains_from_In, In-all, IsStrictlySortedBy-filter, NoneOf, Preference, key_of_family_object, IdentityFault, key_in}
+use Rattle.erd_meaning.proofs.Common.{id_in, Placed, objects, id_of, Met, an_object, an_election, Located, located_one, located, all_located, Key, cases_Bool}
+use Rattle.erd_meaning.proofs.Common.{and_then-Some, ◌^◌, ◌≤◌, false, cond, map, count_by, length-map, view, Value, IsBounded, rank, is_of_family, those_of}
+use Rattle.erd_meaning.proofs.Common.{Kept, objects_among, kept_objects, IsResolved, NumberedName, shown, Object, ◌&&◌, ◌==◌, find, family_number}
+use Rattle.erd_meaning.proofs.Common.{In-filter_kept, keeps_id, object_among, and_left, and_right, true≢false, some_pair_parts, position_of, FindsId, has_id}
+use Rattle.erd_meaning.proofs.Common.{owner_at, kept, any_at, in_at}
 use Rattle.erd_meaning.proofs.identity.IdentityFaults.{kept_keyed, repeats_key, repeats_id, same_id_from}
 use Rattle.erd_meaning.proofs.identity.ObjectFamilies.{is_met, is_of, objects_met, is_object_of, pick, itself, family_exact}
 use Rattle.erd_meaning.proofs.identity.ObjectPlaces.{AreApart, all_parted, apart, id_place}
@@ -58,7 +66,8 @@ located_at π f t i o = slice_get-map (located_one π f) (objects f t) i ∙ ap 
 before_in : (π : Preference) (f : Family) (t : Data) (i j : ℕ) (a : ObjectIn f t i) (b : ObjectIn f t j) → i < j → place_cmp a.one.place b.one.place ≡ Less
 before_in π f t i j a b l =
     before_apart (located_one π f a.one) (located_one π f b.one)
-    (sorted_at apart (located π f (objects f t)) i j (located_one π f a.one) (located_one π f b.one) (family_apart π f t) l (located_at π f t i a) (located_at π f t j b))
+    (sorted_at apart (located π f (objects f t)) i j (located_one π f a.one) (located_one π f b.one) (family_apart π f t) l (located_at π f t i a)
+    (located_at π f t j b))
 
 -- ---- one key
 
@@ -67,10 +76,12 @@ two_keys : (π : Preference) (t : Data) (f : Family) (key : Key) (i j : ℕ) (a 
 two_keys π t f key i j a b none l e g =
     let mine = kept_keyed π f a.one.value key e in
     let its = kept_keyed π f b.one.value key g in
-    none b.one.place TwinIdentifier (repeats_key π t (role.OfFamily f) b.one a.one key mine.0 (contains_from_In b.one (objects f t) (object_in f t j b)) (contains_from_In a.one (objects f t) (object_in f t i a))
+    none b.one.place TwinIdentifier (repeats_key π t (role.OfFamily f) b.one a.one key mine.0 (contains_from_In b.one (objects f t) (object_in f t j b))
+    (contains_from_In a.one (objects f t) (object_in f t i a))
     (before_in π f t i j a b l) its.1 mine.1)
 
-pub one_key : (π : Preference) (t : Data) (f : Family) (key : Key) (i j : ℕ) → NoneOf (IdentityFault π t) → key_in π f t i ≡ Some key → key_in π f t j ≡ Some key → i ≡ j
+pub one_key : (π : Preference) (t : Data) (f : Family) (key : Key) (i j : ℕ) → NoneOf (IdentityFault π t) → key_in π f t i ≡ Some key
+    → key_in π f t j ≡ Some key → i ≡ j
 one_key π t f key i j none e g =
     let a = with_part (λ o. key_of_family_object π f o.value) f t i key e in
     let b = with_part (λ o. key_of_family_object π f o.value) f t j key g in
@@ -85,7 +96,8 @@ one_key π t f key i j none e g =
 two_ids : (π : Preference) (t : Data) (id : List ℕ) (f g : Family) (i j : ℕ) (a : ObjectIn f t i) (b : ObjectIn g t j) → NoneOf (IdentityFault π t)
     → apart (located_one π f a.one) (located_one π g b.one) ≡ Less → id_of a.one.value ≡ Some id → id_of b.one.value ≡ Some id → ⊥
 two_ids π t id f g i j a b none l d e =
-    none (id_place b.one.place) DuplicateId (repeats_id t g f b.one a.one id (contains_from_In b.one (objects g t) (object_in g t j b)) (contains_from_In a.one (objects f t) (object_in f t i a))
+    none (id_place b.one.place) DuplicateId (repeats_id t g f b.one a.one id (contains_from_In b.one (objects g t) (object_in g t j b))
+    (contains_from_In a.one (objects f t) (object_in f t i a))
     (before_apart (located_one π f a.one) (located_one π g b.one) l) e d)
 
 same_position : (π : Preference) (t : Data) (f : Family) (i j : ℕ) (a : ObjectIn f t i) (b : ObjectIn f t j) → a.one.place ≡ b.one.place → i ≡ j
@@ -100,7 +112,8 @@ family_met : Family → Met → Family
 family_met f (an_object k) = k.family
 family_met f (an_election needed key) = f
 
-one_object : (π : Preference) (t : Data) (f g : Family) (i j : ℕ) (a : ObjectIn f t i) (b : ObjectIn g t j) → located_one π f a.one ≡ located_one π g b.one → (f ≡ g) × (i ≡ j)
+one_object : (π : Preference) (t : Data) (f g : Family) (i j : ℕ) (a : ObjectIn f t i) (b : ObjectIn g t j) → located_one π f a.one
+    ≡ located_one π g b.one → (f ≡ g) × (i ≡ j)
 unfolding family_met
 one_object π t f g i j a b e =
     let family : f ≡ g = ap (λ (x : Located). family_met f x.met) e in
@@ -108,7 +121,8 @@ one_object π t f g i j a b e =
     let there : slice_get (objects f t) j ≡ Some b.one = subst (λ h. slice_get (objects h t) j ≡ Some b.one) (sym family) b.at in
     (family, same_position π t f i j a (record { one = b.one; at = there }) place)
 
-pub one_id : (π : Preference) (t : Data) (id : List ℕ) (f g : Family) (i j : ℕ) → NoneOf (IdentityFault π t) → id_in f t i ≡ Some id → id_in g t j ≡ Some id → (f ≡ g) × (i ≡ j)
+pub one_id : (π : Preference) (t : Data) (id : List ℕ) (f g : Family) (i j : ℕ) → NoneOf (IdentityFault π t) → id_in f t i ≡ Some id → id_in g t j
+    ≡ Some id → (f ≡ g) × (i ≡ j)
 one_id π t id f g i j none d e =
     let a = with_part (λ o. id_of o.value) f t i id d in
     let b = with_part (λ o. id_of o.value) g t j id e in
@@ -136,7 +150,8 @@ record HitFrom {A : Type 0} (p : A → Bool) (i : ℕ) (xs : List A) (n : ℕ) :
 hit_from : {A : Type 0} (p : A → Bool) (i : ℕ) (xs : List A) (n : ℕ) → position_from p i xs ≡ Some n → HitFrom p i xs n
 hit_from p i [] n e = cc
 hit_from p i (x ∷ xs) n e = elim (cases_Bool (p x)) [
-  | inl is ↦ let h : Some i ≡ Some n = rw is at e in let same : i ≡ n = cc in record { after = 0; is = omega arith; hit = record { one = x; at = refl; passes = is } }
+  | inl is ↦ let h : Some i ≡ Some n = rw is at e in let same : i ≡ n = cc in
+      record { after = 0; is = omega arith; hit = record { one = x; at = refl; passes = is } }
   | inr is ↦
       let found = hit_from p (i + 1) xs n (rw is at e) in
       let place : n ≡ i + 1 + found.after = found.is in
@@ -175,7 +190,8 @@ those_located f (x ∷ xs) = at x.met (those_located f xs)
     kept false k ks ys e = e
 
     at : (m : Met) → those_of f (objects_among (map (λ x. x.met) xs)) ≡ objects_among (map (λ x. x.met) (pick f xs))
-        → those_of f (objects_among (m ∷ map (λ x. x.met) xs)) ≡ objects_among (map (λ x. x.met) (cond (is_object_of f m) (record { place = x.place; met = m } ∷ pick f xs) (pick f xs)))
+        → those_of f (objects_among (m ∷ map (λ x. x.met) xs))
+        ≡ objects_among (map (λ x. x.met) (cond (is_object_of f m) (record { place = x.place; met = m } ∷ pick f xs) (pick f xs)))
     at (an_object k) e = kept (is_of_family f k) k (those_of f (objects_among (map (λ x. x.met) xs))) (pick f xs) e
     at (an_election needed key) e = e
 
@@ -187,10 +203,12 @@ pub those_kept : (π : Preference) (f : Family) (t : Data) → those_of f (kept_
 those_kept π f t =
     those_located f (all_located π t) ∙ ap (λ (xs : List Located). objects_among (map (λ x. x.met) xs)) (objects_met π f t) ∙ objects_located π f (objects f t)
 
-pub those_shown : (π : Preference) (v : Value) (os : List Object) (ns : List NumberedName) (f : Family) → IsResolved π v os ns → those_of f (map shown os) ≡ kept_of π f (objects f (view v))
+pub those_shown : (π : Preference) (v : Value) (os : List Object) (ns : List NumberedName) (f : Family) → IsResolved π v os ns → those_of f (map shown os)
+    ≡ kept_of π f (objects f (view v))
 those_shown π v os ns f r = ap (those_of f) r.kept ∙ those_kept π f (view v)
 
-pub counted : (π : Preference) (v : Value) (os : List Object) (ns : List NumberedName) (f : Family) → IsResolved π v os ns → length (those_of f (map shown os)) ≡ length (objects f (view v))
+pub counted : (π : Preference) (v : Value) (os : List Object) (ns : List NumberedName) (f : Family) → IsResolved π v os ns → length (those_of f (map shown os))
+    ≡ length (objects f (view v))
 counted π v os ns f r = ap length (those_shown π v os ns f r) ∙ length-map (objects f (view v)) (λ (o : Placed). kept π f o)
 
 -- each family has no more objects than the walk over the report meets
@@ -212,7 +230,8 @@ kept_get π g f [] i = refl
 kept_get π g f (o ∷ os) zero = refl
 kept_get π g f (o ∷ os) (suc i) = kept_get π g f os i
 
-value_get : (π : Preference) (f : Family) (os : List Placed) (i : ℕ) → option_map (λ k. k.value) (slice_get (kept_of π f os) i) ≡ option_map (λ o. o.value) (slice_get os i)
+value_get : (π : Preference) (f : Family) (os : List Placed) (i : ℕ) → option_map (λ k. k.value) (slice_get (kept_of π f os) i)
+    ≡ option_map (λ o. o.value) (slice_get os i)
 value_get π f [] i = refl
 value_get π f (o ∷ os) zero = refl
 value_get π f (o ∷ os) (suc i) = value_get π f os i
@@ -222,17 +241,20 @@ pub kept_part : (π : Preference) {A : Type 0} (g : Kept → Option A) (f : Fami
 kept_part π g f t i = ap (λ (ks : List Kept). option_and_then g (slice_get ks i)) (those_kept π f t) ∙ kept_get π g f (objects f t) i
 
 -- what is known of the object that is kept at a position
-pub part_at : (π : Preference) {A : Type 0} (g : Kept → Option A) (v : Value) (os : List Object) (ns : List NumberedName) (f : Family) (i : ℕ) → IsResolved π v os ns
+pub part_at : (π : Preference) {A : Type 0} (g : Kept → Option A) (v : Value) (os : List Object) (ns : List NumberedName) (f : Family)
+    (i : ℕ) → IsResolved π v os ns
     → option_and_then g (slice_get (those_of f (map shown os)) i) ≡ option_and_then (λ o. g (kept π f o)) (slice_get (objects f (view v)) i)
 part_at π g v os ns f i r = ap (λ (ks : List Kept). option_and_then g (slice_get (those_of f ks) i)) r.kept ∙ kept_part π g f (view v) i
 
 pub value_at : (π : Preference) (v : Value) (os : List Object) (ns : List NumberedName) (f : Family) (i : ℕ) → IsResolved π v os ns
     → option_map (λ k. k.value) (slice_get (those_of f (map shown os)) i) ≡ option_map (λ o. o.value) (slice_get (objects f (view v)) i)
-value_at π v os ns f i r = ap (λ (ks : List Kept). option_map (λ k. k.value) (slice_get ks i)) (those_shown π v os ns f r) ∙ value_get π f (objects f (view v)) i
+value_at π v os ns f i r = ap (λ (ks : List Kept). option_map (λ k. k.value) (slice_get ks i)) (those_shown π v os ns f r)
+    ∙ value_get π f (objects f (view v)) i
 
 -- ---- the rank of an object in its family
 
-pub ranked : (f : Family) (ks : List Kept) (n : ℕ) (k : Kept) → slice_get ks n ≡ Some k → is_of_family f k ≡ true → slice_get (those_of f ks) (rank f ks n) ≡ Some k
+pub ranked : (f : Family) (ks : List Kept) (n : ℕ) (k : Kept) → slice_get ks n ≡ Some k → is_of_family f k ≡ true
+    → slice_get (those_of f ks) (rank f ks n) ≡ Some k
 ranked f [] n k e t = cc
 ranked f (l ∷ ks) zero k e t = let same : l ≡ k = cc in rw same (rw t refl)
 ranked f (l ∷ ks) (suc n) k e t = elim (cases_Bool (is_of_family f l)) [ inl is ↦ rw is (ranked f ks n k e t) | inr is ↦ rw is (ranked f ks n k e t) ]
@@ -257,7 +279,8 @@ none_of_family f p k ks one e other = none_passes (λ j. is_of_family f j && p j
   | inr h ↦ and_right (is_of_family f j) (p j) h
 ])
 
-only_family : (f : Family) (p : Kept → Bool) (ks : List Kept) → OfOneFamily p ks → option_and_then (if_of_family f) (find p ks) ≡ find (λ k. is_of_family f k && p k) ks
+only_family : (f : Family) (p : Kept → Bool) (ks : List Kept) → OfOneFamily p ks → option_and_then (if_of_family f) (find p ks)
+    ≡ find (λ k. is_of_family f k && p k) ks
 unfolding if_of_family
 only_family f p [] one = refl
 only_family f p (k ∷ ks) one = at (p k) refl (is_of_family f k) refl (only_family f p ks (λ a b i j. one a b (inr i) (inr j)))

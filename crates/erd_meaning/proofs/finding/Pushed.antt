@@ -1,5 +1,10 @@
 -- What the indexes answer, once something was added.
-use Rattle.erd_meaning.proofs.Common.{◌≡◌, ℕ, zero, suc, ◌+◌, ◌<◌, Bool, true, false, cond, List, [], ◌∷◌, ◌++◌, length, is_some, slice_get, Some, None, Option, option_map, position, option_and_then, sym, refl, ap, ◌∙◌, subst, append_assoc, append-nil, arith, append_snoc, take-append_seam, position_from-zero, take-append-le, length_push, slice_get_within, position_from, lookup, option_or, Family, family, with_place, places_from, rank, number_at, number_of_id, number_of_key, contests_noted, contests_before, is_of_family, those_of, is_keyed, keeps_id, Kept, Key, inl, inr, cases_Bool, ◌&&◌, ◌==◌, is_eq, rules, and_parts, Equal-is, family_number, key_writes, key_cmp, same_owned, is_salted_owned, key_cmp_exact, salted_number, Salted}
+use Rattle.erd_meaning.proofs.Common.{◌≡◌, ℕ, zero, suc, ◌+◌, ◌<◌, Bool, true, false, cond, List, [], ◌∷◌, ◌++◌, length, is_some, slice_get, Some, None, Option}
+use Rattle.erd_meaning.proofs.Common.{option_map, position, option_and_then, sym, refl, ap, ◌∙◌, subst, append_assoc, append-nil, arith, append_snoc}
+use Rattle.erd_meaning.proofs.Common.{take-append_seam, position_from-zero, take-append-le, length_push, slice_get_within, position_from, lookup, option_or}
+use Rattle.erd_meaning.proofs.Common.{Family, family, with_place, places_from, rank, number_at, number_of_id, number_of_key, contests_noted, contests_before}
+use Rattle.erd_meaning.proofs.Common.{is_of_family, those_of, is_keyed, keeps_id, Kept, Key, inl, inr, cases_Bool, ◌&&◌, ◌==◌, is_eq, rules, and_parts}
+use Rattle.erd_meaning.proofs.Common.{Equal-is, family_number, key_writes, key_cmp, same_owned, is_salted_owned, key_cmp_exact, salted_number, Salted}
 use Rattle.erd_meaning.proofs.finding.OneObject.{hit}
 use Rattle.erd_index.specs.declared.salt.Salt.{Salt}
 use Rattle.erd_meaning.proofs.identity.ObjectFamilies.{family_exact}
@@ -8,7 +13,8 @@ use Rattle.erd_tables.specs.contracts.class.FamilyPartialEq as family_eq
 -- ---- lists
 
 -- what is looked up among entries, and one more
-pub lookup_push : {K X : Type 0} (test : K → Bool) (es : List (K × X)) (k : K) (x : X) → lookup test (es ++ (k, x) ∷ []) ≡ option_or (lookup test es) (cond (test k) (Some x) None)
+pub lookup_push : {K X : Type 0} (test : K → Bool) (es : List (K × X)) (k : K) (x : X) → lookup test (es ++ (k, x) ∷ []) ≡ option_or (lookup test es)
+    (cond (test k) (Some x) None)
 lookup_push test [] k x = refl
 lookup_push test (e ∷ es) k x = elim (cases_Bool (test e.0)) [ inl is ↦ rw is refl | inr is ↦ rw is (lookup_push test es k x) ]
 
@@ -17,9 +23,13 @@ position_from_push : {X : Type 0} (p : X → Bool) (i : ℕ) (xs : List X) (x : 
 position_from_push p i [] x = let none : i + 0 ≡ i = omega arith in ap (λ n. cond (p x) (Some n) None) (sym none)
 position_from_push p i (y ∷ xs) x =
     let next : i + 1 + length xs ≡ i + length (y ∷ xs) = omega arith in
-    elim (cases_Bool (p y)) [ inl is ↦ rw is refl | inr is ↦ rw is (position_from_push p (i + 1) xs x ∙ ap (λ n. option_or (position_from p (i + 1) xs) (cond (p x) (Some n) None)) next) ]
+    elim (cases_Bool (p y)) [
+      | inl is ↦ rw is refl
+      | inr is ↦ rw is (position_from_push p (i + 1) xs x ∙ ap (λ n. option_or (position_from p (i + 1) xs) (cond (p x) (Some n) None)) next)
+    ]
 
-pub position_push : {X : Type 0} (p : X → Bool) (xs : List X) (x : X) → position p (xs ++ x ∷ []) ≡ option_or (position p xs) (cond (p x) (Some (length xs)) None)
+pub position_push : {X : Type 0} (p : X → Bool) (xs : List X) (x : X) → position p (xs ++ x ∷ []) ≡ option_or (position p xs)
+    (cond (p x) (Some (length xs)) None)
 position_push p xs x =
     let none : 0 + length xs ≡ length xs = omega arith in
     position_from-zero p (xs ++ x ∷ []) ∙ position_from_push p 0 xs x ∙ ap (λ n. option_or (position_from p 0 xs) (cond (p x) (Some n) None)) none
@@ -44,17 +54,18 @@ none_found o e = grind arith
 
 -- ---- the places of a family
 
-pub places_push : (f : Family) (n : ℕ) (ks : List Kept) (k : Kept)
-    → places_from f n (ks ++ k ∷ []) ≡ with_place k.family (n + length ks) f (places_from f n ks)
+pub places_push : (f : Family) (n : ℕ) (ks : List Kept) (k : Kept) → places_from f n (ks ++ k ∷ []) ≡ with_place k.family (n + length ks) f (places_from f n ks)
 places_push f n [] k = let none : n + 0 ≡ n = omega arith in ap (λ m. cond (is_of_family f k) (m ∷ []) []) (sym none)
-places_push f n (l ∷ ks) k = at (is_of_family f l) (is_of_family f k) (places_push f (n + 1) ks k ∙ ap (λ m. with_place k.family m f (places_from f (n + 1) ks)) next)
+places_push f n (l ∷ ks) k = at (is_of_family f l) (is_of_family f k)
+    (places_push f (n + 1) ks k ∙ ap (λ m. with_place k.family m f (places_from f (n + 1) ks)) next)
   where
     next : n + 1 + length ks ≡ n + length (l ∷ ks)
     next = omega arith
 
     at : (b c : Bool) → places_from f (n + 1) (ks ++ k ∷ []) ≡ cond c (places_from f (n + 1) ks ++ (n + length (l ∷ ks)) ∷ []) (places_from f (n + 1) ks)
         → cond b (n ∷ places_from f (n + 1) (ks ++ k ∷ [])) (places_from f (n + 1) (ks ++ k ∷ []))
-        ≡ cond c (cond b (n ∷ places_from f (n + 1) ks) (places_from f (n + 1) ks) ++ (n + length (l ∷ ks)) ∷ []) (cond b (n ∷ places_from f (n + 1) ks) (places_from f (n + 1) ks))
+        ≡ cond c (cond b (n ∷ places_from f (n + 1) ks) (places_from f (n + 1) ks) ++ (n + length (l ∷ ks)) ∷ [])
+        (cond b (n ∷ places_from f (n + 1) ks) (places_from f (n + 1) ks))
     at true true h = ap (λ ps. n ∷ ps) h
     at true false h = ap (λ ps. n ∷ ps) h
     at false c h = h
@@ -62,16 +73,21 @@ places_push f n (l ∷ ks) k = at (is_of_family f l) (is_of_family f k) (places_
 -- there are as many as objects
 pub places_length : (f : Family) (n : ℕ) (ks : List Kept) → length (places_from f n ks) ≡ length (those_of f ks)
 places_length f n [] = refl
-places_length f n (k ∷ ks) = elim (cases_Bool (is_of_family f k)) [ inl is ↦ rw is (ap suc (places_length f (n + 1) ks)) | inr is ↦ rw is (places_length f (n + 1) ks) ]
+places_length f n (k ∷ ks) =
+    elim (cases_Bool (is_of_family f k)) [ inl is ↦ rw is (ap suc (places_length f (n + 1) ks)) | inr is ↦ rw is (places_length f (n + 1) ks) ]
 
 -- and there the objects stand
-places_after : (f : Family) (js ks : List Kept) (i : ℕ) → option_and_then (slice_get (js ++ ks)) (slice_get (places_from f (length js) ks) i) ≡ slice_get (those_of f ks) i
+places_after : (f : Family) (js ks : List Kept) (i : ℕ) → option_and_then (slice_get (js ++ ks)) (slice_get (places_from f (length js) ks) i)
+    ≡ slice_get (those_of f ks) i
 places_after f js [] i = refl
 places_after f js (k ∷ ks) i = at (is_of_family f k) i
-    (λ m. subst (λ (ls : List Kept). option_and_then (slice_get ls) (slice_get (places_from f (length js + 1) ks) m) ≡ slice_get (those_of f ks) m) (append_snoc js k ks)
-    (subst (λ n. option_and_then (slice_get ((js ++ k ∷ []) ++ ks)) (slice_get (places_from f n ks) m) ≡ slice_get (those_of f ks) m) (length_push js k) (places_after f (js ++ k ∷ []) ks m)))
+    (λ m. subst (λ (ls : List Kept). option_and_then (slice_get ls) (slice_get (places_from f (length js + 1) ks) m) ≡ slice_get (those_of f ks) m)
+    (append_snoc js k ks)
+    (subst (λ n. option_and_then (slice_get ((js ++ k ∷ []) ++ ks)) (slice_get (places_from f n ks) m) ≡ slice_get (those_of f ks) m) (length_push js k)
+    (places_after f (js ++ k ∷ []) ks m)))
   where
-    at : (b : Bool) (m : ℕ) → ((n : ℕ) → option_and_then (slice_get (js ++ k ∷ ks)) (slice_get (places_from f (length js + 1) ks) n) ≡ slice_get (those_of f ks) n)
+    at : (b : Bool) (m : ℕ) → ((n : ℕ) → option_and_then (slice_get (js ++ k ∷ ks)) (slice_get (places_from f (length js + 1) ks) n)
+        ≡ slice_get (those_of f ks) n)
         → option_and_then (slice_get (js ++ k ∷ ks)) (slice_get (cond b (length js ∷ places_from f (length js + 1) ks) (places_from f (length js + 1) ks)) m)
         ≡ slice_get (cond b (k ∷ those_of f ks) (those_of f ks)) m
     at true zero later = get_last js ks k
@@ -88,10 +104,11 @@ pub before_push : (n : ℕ) (ks : List Kept) (k : Kept)
 before_push n [] k = let none : n + 0 ≡ n = omega arith in append-nil (contests_noted k.family n) ∙ ap (contests_noted k.family) (sym none)
 before_push n (l ∷ ks) k =
     let m = cond (is_of_family family.Contest l) (n + 1) n in
-    ap (λ ns. contests_noted l.family n ++ ns) (before_push m ks k ∙ ap (λ i. contests_before m ks ++ contests_noted k.family i) (count (is_of_family family.Contest l)))
-    ∙ sym (append_assoc (contests_noted l.family n) (contests_before m ks) _)
+    ap (λ ns. contests_noted l.family n ++ ns) (before_push m ks k ∙ ap (λ i. contests_before m ks ++ contests_noted k.family i)
+    (count (is_of_family family.Contest l))) ∙ sym (append_assoc (contests_noted l.family n) (contests_before m ks) _)
   where
-    count : (b : Bool) → cond b (n + 1) n + length (those_of family.Contest ks) ≡ n + length (cond b (l ∷ those_of family.Contest ks) (those_of family.Contest ks))
+    count : (b : Bool) → cond b (n + 1) n + length (those_of family.Contest ks)
+        ≡ n + length (cond b (l ∷ those_of family.Contest ks) (those_of family.Contest ks))
     count true = omega arith
     count false = refl
 
@@ -120,7 +137,8 @@ pub number_of_id_push : (ks : List Kept) (k : Kept) (id : List ℕ)
 number_of_id_push ks k id =
     ap (option_and_then (number_at (ks ++ k ∷ []))) (position_push (keeps_id id) ks k) ∙ from (position (keeps_id id) ks) refl
   where
-    last : (b : Bool) → option_and_then (number_at (ks ++ k ∷ [])) (cond b (Some (length ks)) None) ≡ cond b (Some (k.family, length (those_of k.family ks))) None
+    last : (b : Bool) → option_and_then (number_at (ks ++ k ∷ [])) (cond b (Some (length ks)) None)
+        ≡ cond b (Some (k.family, length (those_of k.family ks))) None
     last true = number_last ks k
     last false = refl
 
@@ -130,7 +148,8 @@ number_of_id_push ks k id =
     from None e = last (keeps_id id k)
     from (Some n) e =
         let h = hit (keeps_id id) ks n e in
-        let here : number_at ks n ≡ Some (h.one.family, rank h.one.family ks n) = ap (option_map {U = Family × ℕ} (λ (l : Kept). (l.family, rank l.family ks n))) h.at in
+        let here : number_at ks n ≡ Some (h.one.family, rank h.one.family ks n) =
+        ap (option_map {U = Family × ℕ} (λ (l : Kept). (l.family, rank l.family ks n))) h.at in
         number_earlier ks k h.one n h.at ∙ sym (ap (λ o. option_or o (cond (keeps_id id k) (Some (k.family, length (those_of k.family ks))) None)) here)
 
 pub number_of_key_push : (ks : List Kept) (k : Kept) (f : Family) (key : Key)

@@ -1,8 +1,16 @@
 -- The walk over the elections and the objects of a report tells exactly the faults of identity.
-use Rattle.erd_meaning.proofs.Common.{◌≡◌, ℕ, Bool, true, false, cond, List, [], ◌∷◌, ◌++◌, is_none, IsTrue, ◌==◌, Some, None, Option, Less, sym, refl, ap, ◌∙◌, subst, inl, inr, true≢false, and_parts, and_from, tied_itself, bytes_eq-Decides, Data, family_number, ListsAll, place_cmp, Family, Role, Fault, Reason, DuplicateId, NoIdentifier, TwinIdentifier, Step, In, In-append_left, In-append_right, In-append, any_at, In-any, In-from_contains, contains_from_In, fault_at, has_keys, is_keyed_role, Preference, key_of, key_of_family_object, IdentityFault, LacksIdentifier, RepeatsId, RepeatsKey, Placed, elections, objects, has_several, objects_with_role, needs_key, id_of, kept, Met, an_object, an_election, Located, located_one, located_election, all_located, same_key, same_id, fault_if, is_keyless, are_twins, are_named_alike, faults_after, key_cmp_total, key_cmp_exact, Key, Equal-is, arith, Contains, role}
+use Rattle.erd_meaning.proofs.Common.{◌≡◌, ℕ, Bool, true, false, cond, List, [], ◌∷◌, ◌++◌, is_none, IsTrue, ◌==◌, Some, None, Option, Less, sym, refl, ap, ◌∙◌}
+use Rattle.erd_meaning.proofs.Common.{subst, inl, inr, true≢false, and_parts, and_from, tied_itself, bytes_eq-Decides, Data, family_number, ListsAll, place_cmp}
+use Rattle.erd_meaning.proofs.Common.{Family, Role, Fault, Reason, DuplicateId, NoIdentifier, TwinIdentifier, Step, In, In-append_left, In-append_right}
+use Rattle.erd_meaning.proofs.Common.{In-append, any_at, In-any, In-from_contains, contains_from_In, fault_at, has_keys, is_keyed_role, Preference, key_of}
+use Rattle.erd_meaning.proofs.Common.{key_of_family_object, IdentityFault, LacksIdentifier, RepeatsId, RepeatsKey, Placed, elections, objects, has_several}
+use Rattle.erd_meaning.proofs.Common.{objects_with_role, needs_key, id_of, kept, Met, an_object, an_election, Located, located_one, located_election}
+use Rattle.erd_meaning.proofs.Common.{all_located, same_key, same_id, fault_if, is_keyless, are_twins, are_named_alike, faults_after, key_cmp_total}
+use Rattle.erd_meaning.proofs.Common.{key_cmp_exact, Key, Equal-is, arith, Contains, role}
 use Rattle.erd_meaning.proofs.identity.ObjectFamilies.{IsElectionMet, IsObjectMet, election_is_met, is_met, source, family_exact, itself}
 use Rattle.erd_meaning.proofs.identity.ObjectPlaces.{all_parted, id_place}
-use Rattle.erd_meaning.proofs.identity.ToldFaults.{Complete, Told, complete, duplicate_id, has_twin, in_if, is_named_before, no_identifier, told, told_rising, told_sound, twin_identifier}
+use Rattle.erd_meaning.proofs.identity.ToldFaults.{Complete, Told, complete, duplicate_id, has_twin, in_if, is_named_before, no_identifier, told, told_rising}
+use Rattle.erd_meaning.proofs.identity.ToldFaults.{told_sound, twin_identifier}
 
 -- ---- what the tests of keys and `@id` texts that the walk makes say of one object or of two
 
@@ -47,11 +55,12 @@ earlier_place p {x} {y} e less = subst (λ q. place_cmp q p ≡ Less) (sym (ap (
 
 -- ---- the facts of a fault, put together
 
-pub lacks_identifier : (π : Preference) (t : Data) (r : Role) (o : Placed) → IsTrue (needs_key t r) → Contains (objects_with_role r t) o → key_of π o.value ≡ None → LacksIdentifier π t o.place
+pub lacks_identifier : (π : Preference) (t : Data) (r : Role) (o : Placed) → IsTrue (needs_key t r) → Contains (objects_with_role r t) o → key_of π o.value
+    ≡ None → LacksIdentifier π t o.place
 lacks_identifier π t r o needed stands keyless = record { role = r; needed = needed; placed = o; stands = stands; place = refl; keyless = keyless }
 
-pub repeats_key : (π : Preference) (t : Data) (r : Role) (o p : Placed) (k : Key) → IsTrue (is_keyed_role r) → Contains (objects_with_role r t) o → Contains (objects_with_role r t) p → place_cmp p.place o.place ≡ Less
-    → key_of π o.value ≡ Some k → key_of π p.value ≡ Some k → RepeatsKey π t o.place
+pub repeats_key : (π : Preference) (t : Data) (r : Role) (o p : Placed) (k : Key) → IsTrue (is_keyed_role r) → Contains (objects_with_role r t) o
+    → Contains (objects_with_role r t) p → place_cmp p.place o.place ≡ Less → key_of π o.value ≡ Some k → key_of π p.value ≡ Some k → RepeatsKey π t o.place
 repeats_key π t r o p k keyed i j less a b = record {
   role = r;
   keyed = keyed;
@@ -88,19 +97,22 @@ module _ (π : Preference) (t : Data) (f : Family) (o : Placed) (there : In o (o
   lacking : is_keyless (object_here π f o) ≡ true → LacksIdentifier π t o.place
   lacking e =
       let both = and_parts (has_keys f) (is_none (key_of_family_object π f o.value)) e in
-      lacks_identifier π t (role.OfFamily f) o both.0 (contains_from_In o (objects f t) there) (none_from (key_of π o.value) (subst (λ b. is_none (cond b (key_of π o.value) None) ≡ true) both.0 both.1))
+      lacks_identifier π t (role.OfFamily f) o both.0 (contains_from_In o (objects f t) there)
+      (none_from (key_of π o.value) (subst (λ b. is_none (cond b (key_of π o.value) None) ≡ true) both.0 both.1))
 
   twin_object : (y : Located) → IsObjectMet π t y → place_cmp y.place o.place ≡ Less → are_twins (object_here π f o) y.met ≡ true → RepeatsKey π t o.place
   twin_object y other less e =
       let g = other.family in
       let twins : are_twins (object_here π f o) (object_here π g other.one) ≡ true = ap (λ (z : Located). are_twins (object_here π f o) z.met) other.is ∙ e in
-      let both = and_parts (family_number f == family_number g) (same_key (key_of_family_object π f o.value) (key_of_family_object π g other.one.value)) twins in
+      let both = and_parts (family_number f == family_number g) (same_key (key_of_family_object π f o.value) (key_of_family_object π g other.one.value))
+      twins in
       let family : f ≡ g = family_exact f g both.0 in
       let key = same_key_from (key_of_family_object π f o.value) (key_of_family_object π g other.one.value) both.1 in
       let mine = kept_keyed π f o.value key.0 key.1 in
       let its = kept_keyed π g other.one.value key.0 key.2 in
       repeats_key π t (role.OfFamily f) o other.one key.0 mine.0 (contains_from_In o (objects f t) there)
-      (contains_from_In other.one (objects f t) (subst (λ h. In other.one (objects h t)) (sym family) other.there)) (earlier_place o.place other.is less) mine.1 its.1
+      (contains_from_In other.one (objects f t) (subst (λ h. In other.one (objects h t)) (sym family) other.there))
+      (earlier_place o.place other.is less) mine.1 its.1
 
   repeated_key : (before : List Met) → AreEarlier π t before o.place → has_twin before (object_here π f o) ≡ true → RepeatsKey π t o.place
   repeated_key before earlier e =
@@ -112,11 +124,13 @@ module _ (π : Preference) (t : Data) (f : Family) (o : Placed) (there : In o (o
         | inr other ↦ absurd (true≢false (sym twins ∙ sym (ap (λ (z : Located). are_twins (object_here π f o) z.met) other.is)))
       ]
 
-  named_object : (y : Located) → IsObjectMet π t y → place_cmp y.place o.place ≡ Less → are_named_alike (object_here π f o) y.met ≡ true → RepeatsId t (id_place o.place)
+  named_object : (y : Located) → IsObjectMet π t y → place_cmp y.place o.place ≡ Less → are_named_alike (object_here π f o) y.met ≡ true
+      → RepeatsId t (id_place o.place)
   named_object y other less e =
       let named : same_id (id_of o.value) (id_of other.one.value) ≡ true = ap (λ (z : Located). are_named_alike (object_here π f o) z.met) other.is ∙ e in
       let id = same_id_from (id_of o.value) (id_of other.one.value) named in
-      repeats_id t f other.family o other.one id.0 (contains_from_In o (objects f t) there) (contains_from_In other.one (objects other.family t) other.there) (earlier_place o.place other.is less) id.1 id.2
+      repeats_id t f other.family o other.one id.0 (contains_from_In o (objects f t) there) (contains_from_In other.one (objects other.family t) other.there)
+      (earlier_place o.place other.is less) id.1 id.2
 
   repeated_id : (before : List Met) → AreEarlier π t before o.place → is_named_before before (object_here π f o) ≡ true → RepeatsId t (id_place o.place)
   repeated_id before earlier e =
@@ -140,7 +154,8 @@ module _ (π : Preference) (t : Data) (e : Placed) (there : In e (elections t)) 
   twin_election y other less h =
       let twins : same_key (key_of π e.value) (key_of π other.one.value) ≡ true = ap (λ (z : Located). are_twins (election_here π t e) z.met) other.is ∙ h in
       let key = same_key_from (key_of π e.value) (key_of π other.one.value) twins in
-      repeats_key π t role.Election e other.one key.0 refl (contains_from_In e (elections t) there) (contains_from_In other.one (elections t) other.there) (earlier_place e.place other.is less) key.1 key.2
+      repeats_key π t role.Election e other.one key.0 refl (contains_from_In e (elections t) there) (contains_from_In other.one (elections t) other.there)
+      (earlier_place e.place other.is less) key.1 key.2
 
   repeated_election : (before : List Met) → AreEarlier π t before e.place → has_twin before (election_here π t e) ≡ true → RepeatsKey π t e.place
   repeated_election before earlier h =
@@ -160,8 +175,8 @@ none_named_before b key (m ∷ ms) = none_named_before b key ms
 
 -- a fault of what is met at a place is one of three
 told_one : (π : Preference) (t : Data) (p : List Step) (m : Met) (before : List Met) (f : Fault)
-    → (is_keyless m ≡ true → LacksIdentifier π t p) → (has_twin before m ≡ true → RepeatsKey π t p) → (is_named_before before m ≡ true → RepeatsId t (id_place p))
-    → In f (faults_after before p m) → IdentityFault π t f.place f.reason
+    → (is_keyless m ≡ true → LacksIdentifier π t p) → (has_twin before m ≡ true → RepeatsKey π t p)
+    → (is_named_before before m ≡ true → RepeatsId t (id_place p)) → In f (faults_after before p m) → IdentityFault π t f.place f.reason
 told_one π t p m before f lacks twin named i =
     let a = is_keyless m in
     let b = has_twin before m in
@@ -181,11 +196,12 @@ of_object π t x before f earlier i is =
     let o = is.one in
     let g = is.family in
     let before_it : AreEarlier π t before o.place = subst (λ (y : Located). AreEarlier π t before y.place) (sym is.is) earlier in
-    told_one π t o.place (object_here π g o) before f (lacking π t g o is.there) (repeated_key π t g o is.there before before_it) (repeated_id π t g o is.there before before_it)
+    told_one π t o.place (object_here π g o) before f (lacking π t g o is.there) (repeated_key π t g o is.there before before_it)
+    (repeated_id π t g o is.there before before_it)
     (subst (λ (y : Located). In f (faults_after before y.place y.met)) (sym is.is) i)
 
-of_election : (π : Preference) (t : Data) (x : Located) (before : List Met) (f : Fault) → AreEarlier π t before x.place → In f (faults_after before x.place x.met)
-    → IsElectionMet π t x → IdentityFault π t f.place f.reason
+of_election : (π : Preference) (t : Data) (x : Located) (before : List Met) (f : Fault) → AreEarlier π t before x.place
+    → In f (faults_after before x.place x.met) → IsElectionMet π t x → IdentityFault π t f.place f.reason
 of_election π t x before f earlier i is =
     let e = is.one in
     let before_it : AreEarlier π t before e.place = subst (λ (y : Located). AreEarlier π t before y.place) (sym is.is) earlier in
@@ -221,42 +237,49 @@ tells_lack π t x c h =
     (In-append_left fault (no_identifier (is_keyless x.met) x.place)
     (twin_identifier (has_twin c.before x.met) x.place ++ duplicate_id (is_named_before c.before x.met) x.place) (at_true (is_keyless x.met) fault h))
 
-tells_twin : (π : Preference) (t : Data) (x y : Located) → Completed π t x → In y (all_located π t) → place_cmp y.place x.place ≡ Less → are_twins x.met y.met ≡ true
-    → In (fault_at x.place TwinIdentifier) (identity_told π t)
+tells_twin : (π : Preference) (t : Data) (x y : Located) → Completed π t x → In y (all_located π t) → place_cmp y.place x.place ≡ Less
+    → are_twins x.met y.met ≡ true → In (fault_at x.place TwinIdentifier) (identity_told π t)
 tells_twin π t x y c i less twins =
     let fault = fault_at x.place TwinIdentifier in
     let twin = any_at (are_twins x.met) y.met c.before (c.covers y i less) twins in
     c.tells fault
-    (In-append_right fault (no_identifier (is_keyless x.met) x.place) (twin_identifier (has_twin c.before x.met) x.place ++ duplicate_id (is_named_before c.before x.met) x.place)
-    (In-append_left fault (twin_identifier (has_twin c.before x.met) x.place) (duplicate_id (is_named_before c.before x.met) x.place) (at_true (has_twin c.before x.met) fault twin)))
+    (In-append_right fault (no_identifier (is_keyless x.met) x.place)
+    (twin_identifier (has_twin c.before x.met) x.place ++ duplicate_id (is_named_before c.before x.met) x.place)
+    (In-append_left fault (twin_identifier (has_twin c.before x.met) x.place) (duplicate_id (is_named_before c.before x.met) x.place)
+    (at_true (has_twin c.before x.met) fault twin)))
 
-tells_name : (π : Preference) (t : Data) (x y : Located) → Completed π t x → In y (all_located π t) → place_cmp y.place x.place ≡ Less → are_named_alike x.met y.met ≡ true
-    → In (fault_at (id_place x.place) DuplicateId) (identity_told π t)
+tells_name : (π : Preference) (t : Data) (x y : Located) → Completed π t x → In y (all_located π t) → place_cmp y.place x.place ≡ Less
+    → are_named_alike x.met y.met ≡ true → In (fault_at (id_place x.place) DuplicateId) (identity_told π t)
 tells_name π t x y c i less alike =
     let fault = fault_at (id_place x.place) DuplicateId in
     let named = any_at (are_named_alike x.met) y.met c.before (c.covers y i less) alike in
     c.tells fault
-    (In-append_right fault (no_identifier (is_keyless x.met) x.place) (twin_identifier (has_twin c.before x.met) x.place ++ duplicate_id (is_named_before c.before x.met) x.place)
-    (In-append_right fault (twin_identifier (has_twin c.before x.met) x.place) (duplicate_id (is_named_before c.before x.met) x.place) (at_true (is_named_before c.before x.met) fault named)))
+    (In-append_right fault (no_identifier (is_keyless x.met) x.place)
+    (twin_identifier (has_twin c.before x.met) x.place ++ duplicate_id (is_named_before c.before x.met) x.place)
+    (In-append_right fault (twin_identifier (has_twin c.before x.met) x.place) (duplicate_id (is_named_before c.before x.met) x.place)
+    (at_true (is_named_before c.before x.met) fault named)))
 
 lacking_told : (π : Preference) (t : Data) (r : Role) (o : Placed) → IsTrue (needs_key t r) → In o (objects_with_role r t) → key_of π o.value ≡ None
     → In (fault_at o.place NoIdentifier) (identity_told π t)
 lacking_told π t (role.OfFamily f) o needed i keyless =
     let missing : key_of_family_object π f o.value ≡ None = rw (needed, keyless) in
-    tells_lack π t (located_one π f o) (completed π t (located_one π f o) (is_met π t f o i)) (and_from (has_keys f) (is_none (key_of_family_object π f o.value)) needed (ap is_none missing))
+    tells_lack π t (located_one π f o) (completed π t (located_one π f o) (is_met π t f o i))
+    (and_from (has_keys f) (is_none (key_of_family_object π f o.value)) needed (ap is_none missing))
 lacking_told π t role.Election o needed i keyless =
     let x = located_election π (has_several t) o in
     tells_lack π t x (completed π t x (election_is_met π t o i)) (and_from (has_several t) (is_none (key_of π o.value)) needed (ap is_none keyless))
 lacking_told π t r o needed i keyless = absurd i
 
-key_told : (π : Preference) (t : Data) (r : Role) (o p : Placed) (k : Key) → IsTrue (is_keyed_role r) → In o (objects_with_role r t) → In p (objects_with_role r t)
+key_told : (π : Preference) (t : Data) (r : Role) (o p : Placed) (k : Key) → IsTrue (is_keyed_role r) → In o (objects_with_role r t)
+    → In p (objects_with_role r t)
     → place_cmp p.place o.place ≡ Less → key_of π o.value ≡ Some k → key_of π p.value ≡ Some k → In (fault_at o.place TwinIdentifier) (identity_told π t)
 key_told π t (role.OfFamily f) o p k keyed i j less a b =
     let mine : key_of_family_object π f o.value ≡ Some k = rw (keyed, a) in
     let its : key_of_family_object π f p.value ≡ Some k = rw (keyed, b) in
     let one : same_key (key_of_family_object π f o.value) (key_of_family_object π f p.value) ≡ true = rw (mine, its, tied_itself key_cmp_total k) in
     tells_twin π t (located_one π f o) (located_one π f p) (completed π t (located_one π f o) (is_met π t f o i)) (is_met π t f p j) less
-    (and_from (family_number f == family_number f) (same_key (key_of_family_object π f o.value) (key_of_family_object π f p.value)) (itself (family_number f)) one)
+    (and_from (family_number f == family_number f) (same_key (key_of_family_object π f o.value) (key_of_family_object π f p.value))
+    (itself (family_number f)) one)
 key_told π t role.Election o p k keyed i j less a b =
     let x = located_election π (has_several t) o in
     let y = located_election π (has_several t) p in

@@ -1,5 +1,10 @@
 -- The walk over the elections and the objects of a report, as lists: what it has met and told, and what it leaves.
-use Rattle.erd_meaning.proofs.Common.{◌≡◌, Bool, false, ◌&&◌, ◌||◌, List, [], ◌∷◌, ◌++◌, map, is_none, Option, sym, refl, ap, ◌∙◌, ap₂, append_assoc, append-nil, filter_map-append, list_any, has_keys, Kept, Met, an_object, an_election, Located, object_met, election_met, objects_among, elections_among, same_key, has_same_key, has_same_id, faults_told, are_twins, are_named_alike, faults_after, ObjectsMet, met_one, met_all, Key, true, cond, Some, None, is_eq, key_cmp, AreSeen, is_seen, seen_with, key_cmp_exact, Equal-is, or-false, list_any-append, arith, length, subst, Data, ListsAll, Fault, none_from_empty, NoneOf, Preference, IdentityFault, all_located, kept_objects, election_keys, shown, met_of}
+use Rattle.erd_meaning.proofs.Common.{◌≡◌, Bool, false, ◌&&◌, ◌||◌, List, [], ◌∷◌, ◌++◌, map, is_none, Option, sym, refl, ap, ◌∙◌, ap₂, append_assoc}
+use Rattle.erd_meaning.proofs.Common.{append-nil, filter_map-append, list_any, has_keys, Kept, Met, an_object, an_election, Located, object_met, election_met}
+use Rattle.erd_meaning.proofs.Common.{objects_among, elections_among, same_key, has_same_key, has_same_id, faults_told, are_twins, are_named_alike}
+use Rattle.erd_meaning.proofs.Common.{faults_after, ObjectsMet, met_one, met_all, Key, true, cond, Some, None, is_eq, key_cmp, AreSeen, is_seen, seen_with}
+use Rattle.erd_meaning.proofs.Common.{key_cmp_exact, Equal-is, or-false, list_any-append, arith, length, subst, Data, ListsAll, Fault, none_from_empty, NoneOf}
+use Rattle.erd_meaning.proofs.Common.{Preference, IdentityFault, all_located, kept_objects, election_keys, shown, met_of}
 use Rattle.erd_meaning.proofs.identity.ToldFaults.{told}
 use Rattle.erd_meaning.specs.code.ObjectWalk.{nothing_met}
 use Rattle.erd_meaning.specs.declared.objects.filled.Tables.{Tables}
@@ -15,7 +20,8 @@ record AreAmong (m : ObjectsMet) (earlier : List Met) : Type 0 where
 
 -- ---- the tests of what is met
 
-any_object : (test : Kept → Bool) (both : Met → Bool) → ((k : Kept) → both (an_object k) ≡ test k) → ((b : Bool) (key : Option Key) → both (an_election b key) ≡ false)
+any_object : (test : Kept → Bool) (both : Met → Bool) → ((k : Kept) → both (an_object k) ≡ test k)
+    → ((b : Bool) (key : Option Key) → both (an_election b key) ≡ false)
     → (ms : List Met) → list_any both ms ≡ list_any test (objects_among ms)
 any_object test both objects elections [] = refl
 any_object test both objects elections (an_object k ∷ ms) = ap₂ ◌||◌ (objects k) (any_object test both objects elections ms)
@@ -61,7 +67,8 @@ abbrev mets : List Located → List Met
 mets xs = map (λ x. x.met) xs
 
 met_among : (m : ObjectsMet) (earlier : List Met) (xs : List Located) → AreAmong m earlier → AreAmong (met_all m xs) (earlier ++ mets xs)
-met_among m earlier [] is = record { objects = is.objects ∙ ap objects_among (sym (append-nil earlier)); elections = is.elections ∙ ap elections_among (sym (append-nil earlier)) }
+met_among m earlier [] is =
+    record { objects = is.objects ∙ ap objects_among (sym (append-nil earlier)); elections = is.elections ∙ ap elections_among (sym (append-nil earlier)) }
 met_among m earlier (x ∷ xs) is =
     let rest = met_among (met_one m x) (earlier ++ x.met ∷ []) xs (one_more m earlier x is) in
     let all : earlier ++ x.met ∷ [] ++ mets xs ≡ earlier ++ mets (x ∷ xs) = append_assoc earlier (x.met ∷ []) (mets xs) in
@@ -121,14 +128,17 @@ seen_more keys seen (Some l) are k =
 filled : (π : Preference) (v : Tables) (t : Data) → met_of v ≡ met_all nothing_met (all_located π t) → WalksAll (met_of v) (all_located π t)
 filled π v t met = subst (λ (m : ObjectsMet). WalksAll m (all_located π t)) (sym met) (walks_all nothing_met (all_located π t) refl refl refl)
 
-pub filled_objects : (π : Preference) (v : Tables) (t : Data) → met_of v ≡ met_all nothing_met (all_located π t) → map shown v.objects.objects ≡ kept_objects π t
+pub filled_objects : (π : Preference) (v : Tables) (t : Data) → met_of v ≡ met_all nothing_met (all_located π t)
+    → map shown v.objects.objects ≡ kept_objects π t
 filled_objects π v t met = (filled π v t met).objects
 
 pub filled_elections : (π : Preference) (v : Tables) (t : Data) → met_of v ≡ met_all nothing_met (all_located π t) → v.elections.keys ≡ election_keys π t
 filled_elections π v t met = (filled π v t met).elections ∙ election_keys_met π t
 
-pub all_told : (π : Preference) (v : Tables) (t : Data) → met_of v ≡ met_all nothing_met (all_located π t) → (fs : List Fault) → fs ≡ v.faults.items → ListsAll (IdentityFault π t) fs
+pub all_told : (π : Preference) (v : Tables) (t : Data) → met_of v ≡ met_all nothing_met (all_located π t) → (fs : List Fault) → fs ≡ v.faults.items
+    → ListsAll (IdentityFault π t) fs
 all_told π v t met fs e = subst (ListsAll (IdentityFault π t)) (sym (e ∙ (filled π v t met).faults)) (identity_listed π t)
 
-pub none_told : (π : Preference) (v : Tables) (t : Data) → met_of v ≡ met_all nothing_met (all_located π t) → (fs : List Fault) → fs ≡ v.faults.items → length fs ≡ 0 → NoneOf (IdentityFault π t)
+pub none_told : (π : Preference) (v : Tables) (t : Data) → met_of v ≡ met_all nothing_met (all_located π t) → (fs : List Fault) → fs ≡ v.faults.items
+    → length fs ≡ 0 → NoneOf (IdentityFault π t)
 none_told π v t met fs e empty = none_from_empty (IdentityFault π t) fs (all_told π v t met fs e) empty

@@ -1,5 +1,8 @@
 -- Collecting and meeting objects, some and then more.
-use Rattle.erd_meaning.proofs.Common.{◌≡◌, ℕ, ◌+◌, ◌<◌, Bool, List, [], ◌∷◌, ◌++◌, map, length, get_or, drop, flat_map, sym, refl, ap, ◌∙◌, append_assoc, map-append, at_drop_more, codes, view, Value, family, Contest, Selection, Step, At, Preference, Placed, placed_from, placed_entries, selections_of_contest, Located, located_one, located_election, located, contest_located, election_located, ObjectsMet, met_one, met_all}
+use Rattle.erd_meaning.proofs.Common.{◌≡◌, ℕ, ◌+◌, ◌<◌, Bool, List, [], ◌∷◌, ◌++◌, map, length, get_or, drop, flat_map, sym, refl, ap, ◌∙◌, append_assoc}
+use Rattle.erd_meaning.proofs.Common.{map-append, at_drop_more, codes, view, Value, family, Contest, Selection, Step, At, Preference, Placed, placed_from}
+use Rattle.erd_meaning.proofs.Common.{placed_entries, selections_of_contest, Located, located_one, located_election, located, contest_located, election_located}
+use Rattle.erd_meaning.proofs.Common.{ObjectsMet, met_one, met_all}
 use Rattle.erd_meaning.specs.code.CollectedWalks.{found}
 use Rattle.erd_meaning.specs.code.ObjectWalk.{nothing_met}
 use Rattle.erd_meaning.specs.declared.objects.collected.Found.{Found}
@@ -45,4 +48,5 @@ election_collected π needed e m k a b n first styles candidates contests =
 pub filled_next : (before after : ObjectsMet) (xs : List Found) (x : Found) → before ≡ met_all nothing_met (map found xs) → after ≡ met_one before (found x)
     → after ≡ met_all nothing_met (map found (xs ++ x ∷ []))
 filled_next before after xs x all one =
-    one ∙ ap (λ m. met_one m (found x)) all ∙ sym (met_all_append nothing_met (map found xs) (found x ∷ [])) ∙ ap (met_all nothing_met) (sym (map-append found xs (x ∷ [])))
+    one ∙ ap (λ m. met_one m (found x)) all ∙ sym (met_all_append nothing_met (map found xs) (found x ∷ []))
+    ∙ ap (met_all nothing_met) (sym (map-append found xs (x ∷ [])))

@@ -1,5 +1,10 @@
 -- The objects of a family and the elections are those that the walk meets, in the same order.
-use Rattle.erd_meaning.proofs.Common.{◌≡◌, ℕ, Bool, true, false, cond, List, [], ◌∷◌, ◌++◌, ◌==◌, Some, codes, filter, Option, find, flat_map, sym, refl, ap, ◌∙◌, subst, ap₂, append-nil, Decides-eqb, filter-append, Data, families, family_number, Family, family, Preference, Placed, placed_entries, report_of, elections, selections_of_contest, objects, has_keys, has_several, Met, an_object, an_election, Located, located_one, located, contest_located, election_located, shared_located, all_located, flat_map-append, fun_ext, map-append, map, key_of, located_election, inside_election, elections_among, all_met, election_keys, ◌⊎◌, inl, inr, In, In-map, In-map_from, In-filter, In-filter_kept}
+use Rattle.erd_meaning.proofs.Common.{◌≡◌, ℕ, Bool, true, false, cond, List, [], ◌∷◌, ◌++◌, ◌==◌, Some, codes, filter, Option, find, flat_map, sym, refl, ap}
+use Rattle.erd_meaning.proofs.Common.{◌∙◌, subst, ap₂, append-nil, Decides-eqb, filter-append, Data, families, family_number, Family, family, Preference}
+use Rattle.erd_meaning.proofs.Common.{Placed, placed_entries, report_of, elections, selections_of_contest, objects, has_keys, has_several, Met, an_object}
+use Rattle.erd_meaning.proofs.Common.{an_election, Located, located_one, located, contest_located, election_located, shared_located, all_located}
+use Rattle.erd_meaning.proofs.Common.{flat_map-append, fun_ext, map-append, map, key_of, located_election, inside_election, elections_among, all_met}
+use Rattle.erd_meaning.proofs.Common.{election_keys, ◌⊎◌, inl, inr, In, In-map, In-map_from, In-filter, In-filter_kept}
 
 -- what is met is an object of the family
 abbrev pub is_object_of : Family → Met → Bool
@@ -35,8 +40,8 @@ each-flat : (xs : List Placed) → flat_map (λ (o : Placed). o ∷ []) xs ≡ x
 each-flat [] = refl
 each-flat (x ∷ xs) = ap (λ zs. x ∷ zs) (each-flat xs)
 
-pick-flat : (π : Preference) (f : Family) (h : Placed → List Located) (k : Placed → List Placed) → ((o : Placed) → pick f (h o) ≡ located π f (k o)) → (os : List Placed)
-    → pick f (flat_map h os) ≡ located π f (flat_map k os)
+pick-flat : (π : Preference) (f : Family) (h : Placed → List Located) (k : Placed → List Placed)
+    → ((o : Placed) → pick f (h o) ≡ located π f (k o)) → (os : List Placed) → pick f (flat_map h os) ≡ located π f (flat_map k os)
 pick-flat π f h k each [] = refl
 pick-flat π f h k each (o ∷ os) =
     pick-append f (h o) (flat_map h os) (located π f (k o)) (located π f (flat_map k os)) (each o) (pick-flat π f h k each os)
@@ -85,14 +90,16 @@ keyed_unless f other = refl
 abbrev if_of : Family → Family → List Placed → List Placed
 if_of f g os = cond (family_number g == family_number f) os []
 
-pick_at : (π : Preference) (f g : Family) (b : Bool) → (family_number g == family_number f) ≡ b → (os : List Placed) → pick f (located π g os) ≡ located π f (cond b os [])
+pick_at : (π : Preference) (f g : Family) (b : Bool) → (family_number g == family_number f) ≡ b → (os : List Placed) → pick f (located π g os)
+    ≡ located π f (cond b os [])
 pick_at π f g true e os = subst (λ h. pick f (located π h os) ≡ located π f os) (sym (family_exact g f e)) (picked π f os)
 pick_at π f g false e os = passed π f g e os
 
 pick_array : (π : Preference) (f g : Family) (os : List Placed) → pick f (located π g os) ≡ located π f (if_of f g os)
 pick_array π f g os = pick_at π f g (family_number g == family_number f) refl os
 
-pick_both : (π : Preference) (f : Family) (xs ys : List Located) (os ps : List Placed) → pick f xs ≡ located π f os → pick f ys ≡ located π f ps → pick f (xs ++ ys) ≡ located π f (os ++ ps)
+pick_both : (π : Preference) (f : Family) (xs ys : List Located) (os ps : List Placed) → pick f xs ≡ located π f os → pick f ys ≡ located π f ps
+    → pick f (xs ++ ys) ≡ located π f (os ++ ps)
 pick_both π f xs ys os ps a b = pick-append f xs ys (located π f os) (located π f ps) a b ∙ sym (map-append (located_one π f) os ps)
 
 -- ---- elections and the report
@@ -109,12 +116,12 @@ in_election π b f e =
     let all = placed_entries (codes "Contest") e in
     pick_both π f (located π family.Style styles) (located π family.Candidate candidates ++ flat_map (contest_located π) all)
     (if_of f family.Style styles) (if_of f family.Candidate candidates ++ of_contests f all) (pick_array π f family.Style styles)
-    (pick_both π f (located π family.Candidate candidates) (flat_map (contest_located π) all) (if_of f family.Candidate candidates) (of_contests f all) (pick_array π f family.Candidate candidates) (in_contests π f all))
+    (pick_both π f (located π family.Candidate candidates) (flat_map (contest_located π) all) (if_of f family.Candidate candidates) (of_contests f all)
+    (pick_array π f family.Candidate candidates) (in_contests π f all))
 
 abbrev of_shared : Family → Placed → List Placed
 of_shared f r =
-    if_of f family.Unit (placed_entries (codes "GpUnit") r)
-    ++ (if_of f family.Header (placed_entries (codes "Header") r)
+    if_of f family.Unit (placed_entries (codes "GpUnit") r) ++ (if_of f family.Header (placed_entries (codes "Header") r)
     ++ (if_of f family.Office (placed_entries (codes "Office") r)
     ++ (if_of f family.Party (placed_entries (codes "Party") r) ++ if_of f family.Person (placed_entries (codes "Person") r))))
 
@@ -134,7 +141,8 @@ in_shared π f r =
     pick_both π f (located π family.Unit units) from_headers (if_of f family.Unit units) headers_on (pick_array π f family.Unit units)
     (pick_both π f (located π family.Header headers) from_offices (if_of f family.Header headers) offices_on (pick_array π f family.Header headers)
     (pick_both π f (located π family.Office offices) from_parties (if_of f family.Office offices) parties_on (pick_array π f family.Office offices)
-    (pick_both π f (located π family.Party parties) (located π family.Person persons) (if_of f family.Party parties) (if_of f family.Person persons) (pick_array π f family.Party parties) (pick_array π f family.Person persons))))
+    (pick_both π f (located π family.Party parties) (located π family.Person persons) (if_of f family.Party parties) (if_of f family.Person persons)
+    (pick_array π f family.Party parties) (pick_array π f family.Person persons))))
 
 no_election : (f : Family) (t : Data) → ((e : Placed) → of_election f e ≡ []) → flat_map (of_election f) (elections t) ≡ []
 no_election f t none = none-flat (of_election f) none (elections t)
@@ -148,7 +156,8 @@ shared_alone f t os none is = ap (λ xs. xs ++ of_shared f (report_of t)) (no_el
 election_alone : (f : Family) (t : Data) (k : Placed → List Placed) → ((e : Placed) → of_election f e ≡ k e) → of_shared f (report_of t) ≡ []
     → flat_map (of_election f) (elections t) ++ of_shared f (report_of t) ≡ flat_map k (elections t)
 election_alone f t k each none =
-    ap (λ xs. flat_map (of_election f) (elections t) ++ xs) none ∙ append-nil (flat_map (of_election f) (elections t)) ∙ ap (λ (h : Placed → List Placed). flat_map h (elections t)) (fun_ext each)
+    ap (λ xs. flat_map (of_election f) (elections t) ++ xs) none ∙ append-nil (flat_map (of_election f) (elections t))
+    ∙ ap (λ (h : Placed → List Placed). flat_map h (elections t)) (fun_ext each)
 
 no_contest : (f : Family) → ((o : Placed) → of_contest f o ≡ []) → (e : Placed) → of_contests f (placed_entries (codes "Contest") e) ≡ []
 no_contest f none e = none-flat (of_contest f) none (placed_entries (codes "Contest") e)
@@ -160,10 +169,12 @@ nested_flat h k (o ∷ os) = ap (λ xs. flat_map h (k o) ++ xs) (nested_flat h k
 objects_are : (f : Family) (t : Data) → flat_map (of_election f) (elections t) ++ of_shared f (report_of t) ≡ objects f t
 objects_are family.Person t = shared_alone family.Person t _ (no_contest family.Person (λ o. refl)) refl
 objects_are family.Candidate t =
-    election_alone family.Candidate t (placed_entries (codes "Candidate")) (λ e. ap (λ xs. placed_entries (codes "Candidate") e ++ xs) (no_contest family.Candidate (λ o. refl) e) ∙ append-nil _) refl
+    election_alone family.Candidate t (placed_entries (codes "Candidate"))
+    (λ e. ap (λ xs. placed_entries (codes "Candidate") e ++ xs) (no_contest family.Candidate (λ o. refl) e) ∙ append-nil _) refl
 objects_are family.Contest t = election_alone family.Contest t (placed_entries (codes "Contest")) (λ e. each-flat (placed_entries (codes "Contest") e)) refl
 objects_are family.Style t =
-    election_alone family.Style t (placed_entries (codes "BallotStyle")) (λ e. ap (λ xs. placed_entries (codes "BallotStyle") e ++ xs) (no_contest family.Style (λ o. refl) e) ∙ append-nil _) refl
+    election_alone family.Style t (placed_entries (codes "BallotStyle"))
+    (λ e. ap (λ xs. placed_entries (codes "BallotStyle") e ++ xs) (no_contest family.Style (λ o. refl) e) ∙ append-nil _) refl
 objects_are family.Selection t =
     election_alone family.Selection t (λ e. flat_map selections_of_contest (placed_entries (codes "Contest") e)) (λ e. refl) refl
     ∙ nested_flat selections_of_contest (placed_entries (codes "Contest")) (elections t)
@@ -172,7 +183,8 @@ objects_are d t = shared_alone d t _ (no_contest d (λ o. refl)) (append-nil _)
 -- the objects of a family, as the walk meets them
 pub objects_met : (π : Preference) (f : Family) (t : Data) → pick f (all_located π t) ≡ located π f (objects f t)
 objects_met π f t =
-    pick_both π f (flat_map (election_located π (has_several t)) (elections t)) (shared_located π (report_of t)) (flat_map (of_election f) (elections t)) (of_shared f (report_of t))
+    pick_both π f (flat_map (election_located π (has_several t)) (elections t)) (shared_located π (report_of t)) (flat_map (of_election f) (elections t))
+    (of_shared f (report_of t))
     (pick-flat π f (election_located π (has_several t)) (of_election f) (in_election π (has_several t) f) (elections t)) (in_shared π f (report_of t))
     ∙ ap (located π f) (objects_are f t)
 
@@ -198,7 +210,8 @@ neither xs ys a b = filter-append is_election xs ys ∙ ap₂ ◌++◌ a b
 
 none_in_contests : (π : Preference) (os : List Placed) → pick_elections (flat_map (contest_located π) os) ≡ []
 none_in_contests π [] = refl
-none_in_contests π (o ∷ os) = neither (contest_located π o) (flat_map (contest_located π) os) (none_located π family.Selection (selections_of_contest o)) (none_in_contests π os)
+none_in_contests π (o ∷ os) = neither (contest_located π o) (flat_map (contest_located π) os) (none_located π family.Selection (selections_of_contest o))
+    (none_in_contests π os)
 
 none_inside : (π : Preference) (e : Placed) → pick_elections (inside_election π e) ≡ []
 none_inside π e =
@@ -231,19 +244,20 @@ among_picked : (xs : List Located) → elections_among (map (λ x. x.met) xs) �
 among_picked [] = refl
 among_picked (x ∷ xs) = at x.met (among_picked xs)
   where
-    at : (m : Met) → elections_among (map (λ x. x.met) xs) ≡ elections_among (map (λ x. x.met) (pick_elections xs))
-        → elections_among (m ∷ map (λ x. x.met) xs)
+    at : (m : Met) → elections_among (map (λ x. x.met) xs) ≡ elections_among (map (λ x. x.met) (pick_elections xs)) → elections_among (m ∷ map (λ x. x.met) xs)
         ≡ elections_among (map (λ x. x.met) (cond (is_election_met m) (record { place = x.place; met = m } ∷ pick_elections xs) (pick_elections xs)))
     at (an_object k) e = e
     at (an_election needed key) e = ap (λ ks. key ∷ ks) e
 
-keys_of_picked : (π : Preference) (b : Bool) (es : List Placed) → elections_among (map (λ x. x.met) (map (located_election π b) es)) ≡ map (λ e. key_of π e.value) es
+keys_of_picked : (π : Preference) (b : Bool) (es : List Placed) → elections_among (map (λ x. x.met) (map (located_election π b) es))
+    ≡ map (λ e. key_of π e.value) es
 keys_of_picked π b [] = refl
 keys_of_picked π b (e ∷ es) = ap (λ ks. key_of π e.value ∷ ks) (keys_of_picked π b es)
 
 pub election_keys_met : (π : Preference) (t : Data) → elections_among (all_met π t) ≡ election_keys π t
 election_keys_met π t =
-    among_picked (all_located π t) ∙ ap (λ (xs : List Located). elections_among (map (λ x. x.met) xs)) (elections_picked π t) ∙ keys_of_picked π (has_several t) (elections t)
+    among_picked (all_located π t) ∙ ap (λ (xs : List Located). elections_among (map (λ x. x.met) xs)) (elections_picked π t)
+    ∙ keys_of_picked π (has_several t) (elections t)
 
 -- ---- what the walk over a report meets is an object of a family or an election, and each of these is met
 
@@ -281,7 +295,8 @@ source π t x i = at x.met refl
 
 pub is_met : (π : Preference) (t : Data) (f : Family) (o : Placed) → In o (objects f t) → In (located_one π f o) (all_located π t)
 is_met π t f o i =
-    (In-filter (is_of f) (located_one π f o) (all_located π t) (subst (In (located_one π f o)) (sym (objects_met π f t)) (In-map (located_one π f) o (objects f t) i))).0
+    (In-filter (is_of f) (located_one π f o) (all_located π t)
+    (subst (In (located_one π f o)) (sym (objects_met π f t)) (In-map (located_one π f) o (objects f t) i))).0
 
 pub election_is_met : (π : Preference) (t : Data) (e : Placed) → In e (elections t) → In (located_election π (has_several t) e) (all_located π t)
 election_is_met π t e i =

@@ -1,6 +1,10 @@
 -- The elections and the objects that the walk meets stand apart: the place of the `@id` of each comes before the places of all
 -- later ones.
-use Rattle.erd_meaning.proofs.Common.{◌≡◌, ℕ, ◌+◌, ◌≤◌, Bool, List, [], ◌∷◌, ◌++◌, codes, flat_map, Ordering, Less, sym, refl, ap, ◌∙◌, subst, ap₂, inl, inr, append_assoc, append-nil, arith, AllByRecursion, IsStrictlySortedBy, Data, steps_less, step_cmp, place_cmp, text_cmp, Family, family, Step, At, Name, In, In-append, all_from_In, Below, sorted_append, Preference, Placed, placed_from, placed_entries, report_of, elections, selections_of_contest, has_several, Located, located_one, located_election, located, contest_located, inside_election, election_located, shared_located, all_located, flat_map_single}
+use Rattle.erd_meaning.proofs.Common.{◌≡◌, ℕ, ◌+◌, ◌≤◌, Bool, List, [], ◌∷◌, ◌++◌, codes, flat_map, Ordering, Less, sym, refl, ap, ◌∙◌, subst, ap₂, inl, inr}
+use Rattle.erd_meaning.proofs.Common.{append_assoc, append-nil, arith, AllByRecursion, IsStrictlySortedBy, Data, steps_less, step_cmp, place_cmp, text_cmp}
+use Rattle.erd_meaning.proofs.Common.{Family, family, Step, At, Name, In, In-append, all_from_In, Below, sorted_append, Preference, Placed, placed_from}
+use Rattle.erd_meaning.proofs.Common.{placed_entries, report_of, elections, selections_of_contest, has_several, Located, located_one, located_election, located}
+use Rattle.erd_meaning.proofs.Common.{contest_located, inside_election, election_located, shared_located, all_located, flat_map_single}
 use Rattle.erd_check.proofs.Steps.{at_less}
 
 abbrev pub id_place : List Step → List Step
@@ -136,7 +140,8 @@ contest_parted : (π : Preference) → Parted (contest_located π)
 contest_parted π o =
     sorted_append apart (alone π family.Contest o) (located π family.Selection (selections_of_contest o)) (alone_parted π family.Contest o)
     (parted_located π family.Selection (codes "ContestSelection") o) (λ x y i j. let m = selections_inside π o y j in elim i [
-      | inl e ↦ ap₂ place_cmp (ap id_place (sym (ap (λ (z : Located). z.place) e))) m.is ∙ steps_less o.place (Name (codes "@id")) (Name (codes "ContestSelection")) [] m.rest refl
+      | inl e ↦ ap₂ place_cmp (ap id_place (sym (ap (λ (z : Located). z.place) e))) m.is ∙ steps_less o.place (Name (codes "@id"))
+          (Name (codes "ContestSelection")) [] m.rest refl
       | inr h ↦ absurd h
     ])
 
@@ -186,10 +191,13 @@ election_inside π b e x (inr i) = objects_inside π e x i
 -- what is inside an election stands in a member of it that comes after its `@id`
 later_member : (π : Preference) (e : Placed) (y : Located) → In y (inside_election π e) → place_cmp (id_place e.place) y.place ≡ Less
 later_member π e y i = elim (In-append y (styles π e) (candidates π e ++ contests_of π e) i) [
-  | inl a ↦ let m = styles_in π e y a in ap (place_cmp (id_place e.place)) m.is ∙ steps_less e.place (Name (codes "@id")) (Name (codes "BallotStyle")) [] m.rest refl
+  | inl a ↦ let m = styles_in π e y a in ap (place_cmp (id_place e.place)) m.is ∙ steps_less e.place (Name (codes "@id"))
+      (Name (codes "BallotStyle")) [] m.rest refl
   | inr b ↦ elim (In-append y (candidates π e) (contests_of π e) b) [
-    | inl a ↦ let m = candidates_in π e y a in ap (place_cmp (id_place e.place)) m.is ∙ steps_less e.place (Name (codes "@id")) (Name (codes "Candidate")) [] m.rest refl
-    | inr c ↦ let m = contests_in π e y c in ap (place_cmp (id_place e.place)) m.is ∙ steps_less e.place (Name (codes "@id")) (Name (codes "Contest")) [] m.rest refl
+    | inl a ↦ let m = candidates_in π e y a in ap (place_cmp (id_place e.place)) m.is ∙ steps_less e.place (Name (codes "@id"))
+        (Name (codes "Candidate")) [] m.rest refl
+    | inr c ↦ let m = contests_in π e y c in ap (place_cmp (id_place e.place)) m.is ∙ steps_less e.place (Name (codes "@id"))
+        (Name (codes "Contest")) [] m.rest refl
   ]
 ]
 
@@ -211,7 +219,8 @@ below_arrays π r name xs a (m ∷ more) less =
     below-append xs (located π m.1 (placed_entries m.0 r)) (arrays π r more)
     (below_by r.place name m.0 xs (located π m.1 (placed_entries m.0 r)) less.0 a (in_located π m.1 m.0 r)) (below_arrays π r name xs a more less.1)
 
-parted_arrays : (π : Preference) (r : Placed) (ms : List (List ℕ × Family)) → IsStrictlySortedBy (λ (a b : List ℕ × Family). text_cmp a.0 b.0) ms → AreApart (arrays π r ms)
+parted_arrays : (π : Preference) (r : Placed) (ms : List (List ℕ × Family)) → IsStrictlySortedBy (λ (a b : List ℕ × Family). text_cmp a.0 b.0) ms
+    → AreApart (arrays π r ms)
 unfolding IsStrictlySortedBy
 parted_arrays π r [] rising = tt
 parted_arrays π r (m ∷ more) rising =
@@ -219,17 +228,21 @@ parted_arrays π r (m ∷ more) rising =
     (below_arrays π r m.0 (located π m.1 (placed_entries m.0 r)) (in_located π m.1 m.0 r) more rising.0)
 
 abbrev shared_arrays : List (List ℕ × Family)
-shared_arrays = (codes "GpUnit", family.Unit) ∷ (codes "Header", family.Header) ∷ (codes "Office", family.Office) ∷ (codes "Party", family.Party) ∷ (codes "Person", family.Person) ∷ []
+shared_arrays = (codes "GpUnit", family.Unit) ∷ (codes "Header", family.Header) ∷ (codes "Office", family.Office) ∷ (codes "Party", family.Party)
+    ∷ (codes "Person", family.Person) ∷ []
 
 shared_is : (π : Preference) (r : Placed) → arrays π r shared_arrays ≡ shared_located π r
 shared_is π r =
     let one = λ (f : Family) (name : List ℕ). located π f (placed_entries name r) in
-    ap (λ xs. one family.Unit (codes "GpUnit") ++ (one family.Header (codes "Header") ++ (one family.Office (codes "Office") ++ (one family.Party (codes "Party") ++ xs))))
+    ap (λ xs. one family.Unit (codes "GpUnit")
+    ++ (one family.Header (codes "Header") ++ (one family.Office (codes "Office") ++ (one family.Party (codes "Party") ++ xs))))
     (append-nil (one family.Person (codes "Person")))
 
 shared_parted : (π : Preference) (r : Placed) → AreApart (shared_located π r)
 unfolding IsStrictlySortedBy
-shared_parted π r = subst AreApart (shared_is π r) (parted_arrays π r shared_arrays ((refl, (refl, (refl, (refl, tt)))), ((refl, (refl, (refl, tt))), ((refl, (refl, tt)), ((refl, tt), (tt, tt))))))
+shared_parted π r =
+    subst AreApart (shared_is π r)
+    (parted_arrays π r shared_arrays ((refl, (refl, (refl, (refl, tt)))), ((refl, (refl, (refl, tt))), ((refl, (refl, tt)), ((refl, tt), (tt, tt))))))
 
 pub all_parted : (π : Preference) (t : Data) → AreApart (all_located π t)
 all_parted π t =

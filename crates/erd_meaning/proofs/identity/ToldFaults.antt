@@ -1,5 +1,8 @@
 -- What is told of what a walk meets: of each election and each object, after all that stand before it, and in order.
-use Rattle.erd_meaning.proofs.Common.{◌≡◌, Bool, true, false, ◌⊎◌, List, [], ◌∷◌, ◌++◌, Less, sym, refl, ap, ◌∙◌, subst, inl, inr, list_any, IsStrictlySortedBy, place_cmp_total, start_less, place_same, fault_cmp, place_cmp, Fault, DuplicateId, NoIdentifier, TwinIdentifier, Step, In, In-append_left, In-append_right, In-append, In-all, Below, sorted_append, fault_at, Met, Located, fault_if, is_keyless, are_twins, are_named_alike, faults_after}
+use Rattle.erd_meaning.proofs.Common.{◌≡◌, Bool, true, false, ◌⊎◌, List, [], ◌∷◌, ◌++◌, Less, sym, refl, ap, ◌∙◌, subst, inl, inr, list_any, IsStrictlySortedBy}
+use Rattle.erd_meaning.proofs.Common.{place_cmp_total, start_less, place_same, fault_cmp, place_cmp, Fault, DuplicateId, NoIdentifier, TwinIdentifier, Step, In}
+use Rattle.erd_meaning.proofs.Common.{In-append_left, In-append_right, In-append, In-all, Below, sorted_append, fault_at, Met, Located, fault_if, is_keyless}
+use Rattle.erd_meaning.proofs.Common.{are_twins, are_named_alike, faults_after}
 use Rattle.erd_meaning.proofs.identity.ObjectPlaces.{AreApart, apart, id_place}
 
 -- ---- the walk as lists
@@ -74,7 +77,10 @@ complete earlier (x ∷ xs) one parted (inr i) =
     record {
       before = c.before;
       earlier_in = λ k h. c.earlier_in k (In-append_left k earlier (x.met ∷ []) h);
-      covers = λ y j less. elim j [ inl s ↦ c.earlier_in y.met (In-append_right y.met earlier (x.met ∷ []) (inl (ap (λ (z : Located). z.met) s))) | inr j ↦ c.covers y j less ];
+      covers = λ y j less. elim j [
+        | inl s ↦ c.earlier_in y.met (In-append_right y.met earlier (x.met ∷ []) (inl (ap (λ (z : Located). z.met) s)))
+        | inr j ↦ c.covers y j less
+      ];
       tells = λ f h. In-append_right f (faults_after earlier x.place x.met) (told (earlier ++ x.met ∷ []) xs) (c.tells f h);
     }
 
@@ -115,8 +121,10 @@ three_sorted a b c p =
     let twin = fault_at p TwinIdentifier in
     let double = fault_at (id_place p) DuplicateId in
     sorted_append fault_cmp (no_identifier a p) (twin_identifier b p ++ duplicate_id c p) (if_sorted a lacks)
-    (sorted_append fault_cmp (twin_identifier b p) (duplicate_id c p) (if_sorted b twin) (if_sorted c double) (if_below b c twin double (rw (start_less p _ []))))
-    (below_both (no_identifier a p) (twin_identifier b p) (duplicate_id c p) (if_below a b lacks twin (rw (place_same p))) (if_below a c lacks double (rw (start_less p _ []))))
+    (sorted_append fault_cmp (twin_identifier b p) (duplicate_id c p) (if_sorted b twin) (if_sorted c double)
+    (if_below b c twin double (rw (start_less p _ []))))
+    (below_both (no_identifier a p) (twin_identifier b p) (duplicate_id c p) (if_below a b lacks twin (rw (place_same p)))
+    (if_below a c lacks double (rw (start_less p _ []))))
 
 -- a fault of an object is told at its place or at its `@id`
 abbrev IsNear : List Step → Fault → Type 0

@@ -1,5 +1,8 @@
 -- The objects of a family without their places, each with the key of the election that holds it.
-use Rattle.erd_meaning.proofs.Common.{◌≡◌, ℕ, suc, ◌+◌, false, List, [], ◌∷◌, ◌++◌, map, if◌then◌else◌, slice_get, Some, None, codes, Option, option_map, flat_map, option_and_then, bytes_eq, sym, refl, ap, ◌∙◌, ap₂, arith, map-append, slice_get-map, Data, Family, role, At, Name, entries_at, Preference, key_of, election_key_in, election_key_of, ObjectRecord, Placed, placed_from, placed_entries, report_of, elections, objects, object_record, record_in_election, Key}
+use Rattle.erd_meaning.proofs.Common.{◌≡◌, ℕ, suc, ◌+◌, false, List, [], ◌∷◌, ◌++◌, map, if◌then◌else◌, slice_get, Some, None, codes, Option, option_map}
+use Rattle.erd_meaning.proofs.Common.{flat_map, option_and_then, bytes_eq, sym, refl, ap, ◌∙◌, ap₂, arith, map-append, slice_get-map, Data, Family, role, At}
+use Rattle.erd_meaning.proofs.Common.{Name, entries_at, Preference, key_of, election_key_in, election_key_of, ObjectRecord, Placed, placed_from, placed_entries}
+use Rattle.erd_meaning.proofs.Common.{report_of, elections, objects, object_record, record_in_election, Key}
 use Rattle.erd_meaning.proofs.accepted.Standing.{values-placed_entries}
 
 -- the key of the election that holds an object, if one does and has a key, and the value of the object
@@ -28,8 +31,7 @@ module _ (π : Preference) (t : Data) where
   election_key_found : (i : ℕ) (e : Data) → slice_get (entries_at (codes "Election") t) i ≡ Some e → election_key_in π t i ≡ key_of π e
   election_key_found i e found =
       let value : Placed → Data = λ o. o.value in
-      sym (mapped_then (key_of π) value (slice_get (elections t) i))
-      ∙ ap (option_and_then (key_of π))
+      sym (mapped_then (key_of π) value (slice_get (elections t) i)) ∙ ap (option_and_then (key_of π))
       (sym (slice_get-map value (elections t) i) ∙ ap (λ (ds : List Data). slice_get ds i) (values-placed_entries (codes "Election") (report_of t)) ∙ found)
 
   in_one : (n j : ℕ) (name : List ℕ) (k : Option Key) → election_key_in π t n ≡ k → (ds : List Data)
@@ -49,14 +51,19 @@ module _ (π : Preference) (t : Data) where
       (in_each name (n + 1) es (λ i d found. let next : n + 1 + i ≡ n + suc i = omega arith in ap (election_key_in π t) next ∙ keys (suc i) d found))
 
   -- the objects in arrays of elections, one election after another
-  pub held_in_elections : (name : List ℕ) → map (held_of π t) (flat_map (placed_entries name) (elections t)) ≡ flat_map (held_by π name) (entries_at (codes "Election") t)
+  pub held_in_elections : (name : List ℕ) → map (held_of π t) (flat_map (placed_entries name) (elections t)) ≡ flat_map (held_by π name)
+      (entries_at (codes "Election") t)
   held_in_elections name =
-      in_each name 0 (entries_at (codes "Election") t) (λ i e found. let same : 0 + i ≡ i = omega arith in ap (election_key_in π t) same ∙ election_key_found i e found)
+      in_each name 0 (entries_at (codes "Election") t) (λ i e found. let same : 0 + i ≡ i = omega arith in
+      ap (election_key_in π t) same ∙ election_key_found i e found)
 
-  in_none : (name : List ℕ) → bytes_eq name (codes "Election") ≡ false → (j : ℕ) (ds : List Data) → map (held_of π t) (placed_from (Name name ∷ []) j ds) ≡ map (λ d. (None, d)) ds
+  in_none : (name : List ℕ) → bytes_eq name (codes "Election") ≡ false → (j : ℕ) (ds : List Data) → map (held_of π t) (placed_from (Name name ∷ []) j ds)
+      ≡ map (λ d. (None, d)) ds
   in_none name other j [] = refl
-  in_none name other j (d ∷ ds) = ap₂ ◌∷◌ (ap (λ b. (option_and_then (election_key_in π t) (if b then Some j else None), d)) other) (in_none name other (j + 1) ds)
+  in_none name other j (d ∷ ds) = ap₂ ◌∷◌ (ap (λ b. (option_and_then (election_key_in π t) (if b then Some j else None), d)) other)
+      (in_none name other (j + 1) ds)
 
   -- no election holds the objects in an array of the report itself
-  pub held_in_none : (name : List ℕ) → bytes_eq name (codes "Election") ≡ false → map (held_of π t) (placed_entries name (report_of t)) ≡ map (λ d. (None, d)) (entries_at name t)
+  pub held_in_none : (name : List ℕ) → bytes_eq name (codes "Election") ≡ false → map (held_of π t) (placed_entries name (report_of t))
+      ≡ map (λ d. (None, d)) (entries_at name t)
   held_in_none name other = in_none name other 0 (entries_at name t)

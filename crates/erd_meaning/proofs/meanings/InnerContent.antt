@@ -1,5 +1,6 @@
 -- The content inside a header of a ballot is that of its member `OrderedContent`.
-use Rattle.erd_meaning.proofs.Common.{◌≡◌, Some, None, codes, Option, is_eq, Ordering, Equal, sym, refl, ap, ◌∙◌, Data, Members, no_members, member, get_member, text_cmp, Preference, Content, no_content, content_of}
+use Rattle.erd_meaning.proofs.Common.{◌≡◌, Some, None, codes, Option, is_eq, Ordering, Equal, sym, refl, ap, ◌∙◌, Data, Members, no_members, member, get_member}
+use Rattle.erd_meaning.proofs.Common.{text_cmp, Preference, Content, no_content, content_of}
 use Rattle.erd_meaning.specs.Records.{content_inside}
 use Rattle.std.proofs.lemmas.Map.Text.{is_eq-slice_cmp}
 

@@ -1,5 +1,11 @@
 -- When two reports mean the same: the report, and the election and the object of each key, mean the same.
-use Rattle.erd_meaning.proofs.Common.{◌≡◌, ℕ, zero, suc, Bool, true, false, not, ◌&&◌, List, [], ◌∷◌, ◌++◌, map, is_some, Some, None, Contains, filter, Option, option_map, find, option_and_then, bytes_eq, is_eq, Ordering, unwrap_or, sym, refl, ap, ◌∙◌, subst, ap₂, true≢false, arith, fun_ext, and_parts, or_parts, or_from, bytes_eq-Decides, list_any, option_cmp, ⊤, Data, null, get, Class, Family, family, Role, role, class_of_object, has_keys, key_cmp, Preference, key_of, election_key_of, Record, NameParts, Placed, report_of, elections, objects, meaning, plain_member, record_with, selection_record, selection_map, member_of_class, object_record, record_in_election, placed_record, placed_with_key, records_of, election_records, selection_role, name_of, name_cmp, Key, inl, inr, cases_Bool}
+use Rattle.erd_meaning.proofs.Common.{◌≡◌, ℕ, zero, suc, Bool, true, false, not, ◌&&◌, List, [], ◌∷◌, ◌++◌, map, is_some, Some, None, Contains, filter, Option}
+use Rattle.erd_meaning.proofs.Common.{option_map, find, option_and_then, bytes_eq, is_eq, Ordering, unwrap_or, sym, refl, ap, ◌∙◌, subst, ap₂, true≢false}
+use Rattle.erd_meaning.proofs.Common.{arith, fun_ext, and_parts, or_parts, or_from, bytes_eq-Decides, list_any, option_cmp, ⊤, Data, null, get, Class, Family}
+use Rattle.erd_meaning.proofs.Common.{family, Role, role, class_of_object, has_keys, key_cmp, Preference, key_of, election_key_of, Record, NameParts, Placed}
+use Rattle.erd_meaning.proofs.Common.{report_of, elections, objects, meaning, plain_member, record_with, selection_record, selection_map, member_of_class}
+use Rattle.erd_meaning.proofs.Common.{object_record, record_in_election, placed_record, placed_with_key, records_of, election_records, selection_role, name_of}
+use Rattle.erd_meaning.proofs.Common.{name_cmp, Key, inl, inr, cases_Bool}
 use Rattle.std.proofs.lemmas.List.Folds.{list_any-append}
 use Rattle.erd_meaning.proofs.orders.DistinctEntries.{options_exact, equal_keys, equal_names}
 use Rattle.erd_meaning.proofs.meanings.WholeRecords.{names_in, absent_member, absent_plain, same_at_every_name, same_at_other_names}
@@ -13,11 +19,14 @@ names_of_both d e = names_in d ++ names_in e
 abbrev pub but_one : List ℕ → List (List ℕ) → List (List ℕ)
 but_one one names = filter (λ n. not (bytes_eq n one)) names
 
-in_neither : (d e : Data) (name : List ℕ) → list_any (bytes_eq name) (names_of_both d e) ≡ false → (list_any (bytes_eq name) (names_in d) ≡ false) × (list_any (bytes_eq name) (names_in e) ≡ false)
+in_neither : (d e : Data) (name : List ℕ) → list_any (bytes_eq name) (names_of_both d e) ≡ false → (list_any (bytes_eq name) (names_in d) ≡ false)
+    × (list_any (bytes_eq name) (names_in e) ≡ false)
 in_neither d e name h =
-    or_parts (list_any (bytes_eq name) (names_in d)) (list_any (bytes_eq name) (names_in e)) (sym (list_any-append (bytes_eq name) (names_in d) (names_in e)) ∙ h)
+    or_parts (list_any (bytes_eq name) (names_in d)) (list_any (bytes_eq name) (names_in e))
+    (sym (list_any-append (bytes_eq name) (names_in d) (names_in e)) ∙ h)
 
-outside : (name one : List ℕ) (names : List (List ℕ)) → bytes_eq name one ≡ false → list_any (bytes_eq name) (but_one one names) ≡ false → list_any (bytes_eq name) names ≡ false
+outside : (name one : List ℕ) (names : List (List ℕ)) → bytes_eq name one ≡ false → list_any (bytes_eq name) (but_one one names) ≡ false
+    → list_any (bytes_eq name) names ≡ false
 outside name one [] other h = refl
 outside name one (n ∷ ns) other h = elim (cases_Bool (bytes_eq n one)) [
   | inl is ↦ or_from (bytes_eq name n) _ (ap (bytes_eq name) ((bytes_eq-Decides n one).0 is) ∙ other) (outside name one ns other (rw is at h))
@@ -29,7 +38,8 @@ abbrev pub IsOfMembers : {V : Type 0} → Data → (List ℕ → Option V) → T
 IsOfMembers d f = (name : List ℕ) → get name d ≡ None → f name ≡ None
 
 -- two objects mean the same at every name, if they do at those that either has
-pub same_members : {V : Type 0} (f g : List ℕ → Option V) (d e : Data) → IsOfMembers d f → IsOfMembers e g → map f (names_of_both d e) ≡ map g (names_of_both d e) → f ≡ g
+pub same_members : {V : Type 0} (f g : List ℕ → Option V) (d e : Data) → IsOfMembers d f → IsOfMembers e g → map f (names_of_both d e)
+    ≡ map g (names_of_both d e) → f ≡ g
 same_members f g d e no_f no_g agree =
     same_at_every_name f g d e (names_of_both d e) no_f no_g (λ name h. (in_neither d e name h).0) (λ name h. (in_neither d e name h).1) agree
 
@@ -37,14 +47,18 @@ same_members f g d e no_f no_g agree =
 pub same_but_one : {V : Type 0} (f g : List ℕ → Option V) (d e : Data) (one : List ℕ) → IsOfMembers d f → IsOfMembers e g
     → map f (but_one one (names_of_both d e)) ≡ map g (but_one one (names_of_both d e)) → (name : List ℕ) → bytes_eq name one ≡ false → f name ≡ g name
 same_but_one f g d e one no_f no_g agree =
-    same_at_other_names f g d e (but_one one (names_of_both d e)) one no_f no_g (λ name other h. (in_neither d e name (outside name one (names_of_both d e) other h)).0)
+    same_at_other_names f g d e (but_one one (names_of_both d e)) one no_f no_g
+    (λ name other h. (in_neither d e name (outside name one (names_of_both d e) other h)).0)
     (λ name other h. (in_neither d e name (outside name one (names_of_both d e) other h)).1) agree
 
 -- and at that name too
 pub same_with_one : {V : Type 0} (f g : List ℕ → Option V) (d e : Data) (one : List ℕ) → IsOfMembers d f → IsOfMembers e g
     → map f (but_one one (names_of_both d e)) ≡ map g (but_one one (names_of_both d e)) → f one ≡ g one → f ≡ g
 same_with_one f g d e one no_f no_g agree at_one =
-    fun_ext (λ name. elim (cases_Bool (bytes_eq name one)) [ inl is ↦ subst (λ n. f n ≡ g n) (sym ((bytes_eq-Decides name one).0 is)) at_one | inr is ↦ same_but_one f g d e one no_f no_g agree name is ])
+    fun_ext (λ name. elim (cases_Bool (bytes_eq name one)) [
+      | inl is ↦ subst (λ n. f n ≡ g n) (sym ((bytes_eq-Decides name one).0 is)) at_one
+      | inr is ↦ same_but_one f g d e one no_f no_g agree name is
+    ])
 
 -- ---- objects
 
@@ -54,29 +68,33 @@ made_with members_of c = record { class = c; members = members_of c }
 abbrev pub record_of_members : {V : Type 0} → Class → (List ℕ → Option V) → Option (Record V)
 record_of_members c members = Some (record { class = c; members = members })
 
-same_record : {V : Type 0} (f g : Class → List ℕ → Option V) (r : Role) (d e : Data) (c : Class) → class_of_object r d ≡ Some c → class_of_object r e ≡ Some c → f c ≡ g c
-    → record_with f r d ≡ record_with g r e
+same_record : {V : Type 0} (f g : Class → List ℕ → Option V) (r : Role) (d e : Data) (c : Class) → class_of_object r d ≡ Some c
+    → class_of_object r e ≡ Some c → f c ≡ g c → record_with f r d ≡ record_with g r e
 same_record f g r d e c left right same = ap (option_map (made_with f)) left ∙ (ap (record_of_members c) same ∙ sym (ap (option_map (made_with g)) right))
 
 -- two objects of one class mean the same, if they do at the names that either has
 pub same_object : (π : Preference) (t u d e : Data) (r : Role) (c : Class) → class_of_object r d ≡ Some c → class_of_object r e ≡ Some c
     → map (member_of_class π t d c) (names_of_both d e) ≡ map (member_of_class π u e c) (names_of_both d e) → object_record π t r d ≡ object_record π u r e
 same_object π t u d e r c left right agree =
-    same_record (member_of_class π t d) (member_of_class π u e) r d e c left right (same_members (member_of_class π t d c) (member_of_class π u e c) d e (absent_member π t d c) (absent_member π u e c) agree)
+    same_record (member_of_class π t d) (member_of_class π u e) r d e c left right
+    (same_members (member_of_class π t d c) (member_of_class π u e c) d e (absent_member π t d c) (absent_member π u e c) agree)
 
 -- the same, where one member is shown apart
 pub same_object_with : (π : Preference) (t u d e : Data) (r : Role) (c : Class) (one : List ℕ) → class_of_object r d ≡ Some c → class_of_object r e ≡ Some c
     → map (member_of_class π t d c) (but_one one (names_of_both d e)) ≡ map (member_of_class π u e c) (but_one one (names_of_both d e))
     → member_of_class π t d c one ≡ member_of_class π u e c one → object_record π t r d ≡ object_record π u r e
 same_object_with π t u d e r c one left right agree at_one =
-    same_record (member_of_class π t d) (member_of_class π u e) r d e c left right (same_with_one (member_of_class π t d c) (member_of_class π u e c) d e one (absent_member π t d c) (absent_member π u e c) agree at_one)
+    same_record (member_of_class π t d) (member_of_class π u e) r d e c left right
+    (same_with_one (member_of_class π t d c) (member_of_class π u e c) d e one (absent_member π t d c) (absent_member π u e c) agree at_one)
 
 -- two selections of one class, where one member is shown apart
-pub same_selection_with : (π : Preference) (t u d e : Data) (c : Class) (one : List ℕ) → class_of_object selection_role d ≡ Some c → class_of_object selection_role e ≡ Some c
+pub same_selection_with : (π : Preference) (t u d e : Data) (c : Class) (one : List ℕ) → class_of_object selection_role d ≡ Some c
+    → class_of_object selection_role e ≡ Some c
     → map (plain_member π t d c) (but_one one (names_of_both d e)) ≡ map (plain_member π u e c) (but_one one (names_of_both d e))
     → plain_member π t d c one ≡ plain_member π u e c one → selection_record π t d ≡ selection_record π u e
 same_selection_with π t u d e c one left right agree at_one =
-    same_record (plain_member π t d) (plain_member π u e) selection_role d e c left right (same_with_one (plain_member π t d c) (plain_member π u e c) d e one (absent_plain π t d c) (absent_plain π u e c) agree at_one)
+    same_record (plain_member π t d) (plain_member π u e) selection_role d e c left right
+    (same_with_one (plain_member π t d c) (plain_member π u e c) d e one (absent_plain π t d c) (absent_plain π u e c) agree at_one)
 
 -- ---- keys and names
 
@@ -85,7 +103,8 @@ abbrev pub AgreeAt : {K V : Type 0} → (K → V) → (K → V) → List K → T
 AgreeAt f g [] = ⊤
 AgreeAt f g (k ∷ ks) = (f k ≡ g k) × AgreeAt f g ks
 
-agree_at : {K V : Type 0} (same : K → K → Bool) (equal : (k l : K) → same k l ≡ true → k ≡ l) (f g : K → V) (keys : List K) (k : K) → AgreeAt f g keys → list_any (λ l. same l k) keys ≡ true → f k ≡ g k
+agree_at : {K V : Type 0} (same : K → K → Bool) (equal : (k l : K) → same k l ≡ true → k ≡ l) (f g : K → V) (keys : List K) (k : K) → AgreeAt f g keys
+    → list_any (λ l. same l k) keys ≡ true → f k ≡ g k
 agree_at same equal f g [] k agree among = absurd (true≢false (sym among))
 agree_at same equal f g (l ∷ ls) k agree among =
     elim (cases_Bool (same l k)) [ inl is ↦ subst (λ q. f q ≡ g q) (equal l k is) agree.0 | inr is ↦ agree_at same equal f g ls k agree.1 (rw is at among) ]
@@ -135,7 +154,8 @@ have_keys cmp key [] [] = true
 have_keys cmp key (x ∷ xs) (k ∷ ks) = is_eq (option_cmp cmp (key x) (Some k)) && have_keys cmp key xs ks
 have_keys cmp key xs ks = false
 
-pub keys_had : {A K : Type 0} (cmp : K → K → Ordering) → ((a b : K) → is_eq (cmp a b) ≡ true → a ≡ b) → (key : A → Option K) (xs : List A) (keys : List K) → have_keys cmp key xs keys ≡ true → map key xs ≡ map Some keys
+pub keys_had : {A K : Type 0} (cmp : K → K → Ordering) → ((a b : K) → is_eq (cmp a b) ≡ true → a ≡ b) → (key : A → Option K) (xs : List A) (keys : List K)
+    → have_keys cmp key xs keys ≡ true → map key xs ≡ map Some keys
 keys_had cmp exact key [] [] h = refl
 keys_had cmp exact key (x ∷ xs) (k ∷ ks) h =
     let both = and_parts (is_eq (option_cmp cmp (key x) (Some k))) _ h in
@@ -166,7 +186,8 @@ value_with_key π t f k = (object_with_key π t f k).value
 one_found : {A : Type 0} (o : Option A) (other : A) → is_some o ≡ true → o ≡ Some (unwrap_or o other)
 one_found o other h = grind arith
 
-record_with_key : (π : Preference) (t : Data) (f : Family) (k : Key) → has_keys f ≡ true → is_some (placed_with_key π t f k) ≡ true → records_of π t f k ≡ placed_record π t f (object_with_key π t f k)
+record_with_key : (π : Preference) (t : Data) (f : Family) (k : Key) → has_keys f ≡ true → is_some (placed_with_key π t f k) ≡ true → records_of π t f k
+    ≡ placed_record π t f (object_with_key π t f k)
 record_with_key π t family.Selection k keyed h = absurd (cc keyed)
 record_with_key π t f k keyed h = ap (option_and_then (placed_record π t f)) (one_found (placed_with_key π t f k) (report_of null) h)
 
@@ -175,9 +196,10 @@ abbrev pub election_with : Preference → Data → Family → Key → Option Key
 election_with π t f k = election_key_of π t (object_with_key π t f k)
 
 -- the objects of one key mean the same in both reports, and are held by elections with one key
-pub same_with_key : (π : Preference) (t u : Data) (f : Family) (k : Key) → has_keys f ≡ true → is_some (placed_with_key π t f k) ≡ true → is_some (placed_with_key π u f k) ≡ true
-    → election_with π t f k ≡ election_with π u f k
-    → object_record π t (role.OfFamily f) (value_with_key π t f k) ≡ object_record π u (role.OfFamily f) (value_with_key π u f k) → records_of π t f k ≡ records_of π u f k
+pub same_with_key : (π : Preference) (t u : Data) (f : Family) (k : Key) → has_keys f ≡ true → is_some (placed_with_key π t f k) ≡ true
+    → is_some (placed_with_key π u f k) ≡ true → election_with π t f k ≡ election_with π u f k
+    → object_record π t (role.OfFamily f) (value_with_key π t f k) ≡ object_record π u (role.OfFamily f) (value_with_key π u f k)
+    → records_of π t f k ≡ records_of π u f k
 same_with_key π t u f k keyed left right held same =
     record_with_key π t f k keyed left ∙ (ap₂ (λ e r. option_map (record_in_election e) r) held same ∙ sym (record_with_key π u f k keyed right))
 
@@ -189,9 +211,11 @@ ObjectsAgree π t u f k c =
     × (class_of_object (role.OfFamily f) d ≡ Some c) × (class_of_object (role.OfFamily f) e ≡ Some c)
     × (map (member_of_class π t d c) (names_of_both d e) ≡ map (member_of_class π u e c) (names_of_both d e))
 
-pub same_at_key : (π : Preference) (t u : Data) (f : Family) (k : Key) (c : Class) → has_keys f ≡ true → ObjectsAgree π t u f k c → records_of π t f k ≡ records_of π u f k
+pub same_at_key : (π : Preference) (t u : Data) (f : Family) (k : Key) (c : Class) → has_keys f ≡ true → ObjectsAgree π t u f k c
+    → records_of π t f k ≡ records_of π u f k
 same_at_key π t u f k c keyed agree =
-    same_with_key π t u f k keyed agree.0 agree.1 agree.2 (same_object π t u (value_with_key π t f k) (value_with_key π u f k) (role.OfFamily f) c agree.3 agree.4 agree.5)
+    same_with_key π t u f k keyed agree.0 agree.1 agree.2 (same_object π t u (value_with_key π t f k) (value_with_key π u f k) (role.OfFamily f) c
+    agree.3 agree.4 agree.5)
 
 -- the same members but for one
 abbrev pub ObjectsAgreeButOne : Preference → Data → Data → Family → Key → Class → List ℕ → Type 0
@@ -204,23 +228,28 @@ ObjectsAgreeButOne π t u f k c one =
 abbrev pub SameMember : Preference → Data → Data → Family → Key → Class → List ℕ → Type 0
 SameMember π t u f k c one = member_of_class π t (value_with_key π t f k) c one ≡ member_of_class π u (value_with_key π u f k) c one
 
-pub same_at_key_with : (π : Preference) (t u : Data) (f : Family) (k : Key) (c : Class) (one : List ℕ) → has_keys f ≡ true → ObjectsAgreeButOne π t u f k c one → SameMember π t u f k c one → records_of π t f k ≡ records_of π u f k
+pub same_at_key_with : (π : Preference) (t u : Data) (f : Family) (k : Key) (c : Class) (one : List ℕ) → has_keys f ≡ true → ObjectsAgreeButOne π t u f k c one
+    → SameMember π t u f k c one → records_of π t f k ≡ records_of π u f k
 same_at_key_with π t u f k c one keyed agree at_one =
-    same_with_key π t u f k keyed agree.0 agree.1 agree.2 (same_object_with π t u (value_with_key π t f k) (value_with_key π u f k) (role.OfFamily f) c one agree.3 agree.4 agree.5 at_one)
+    same_with_key π t u f k keyed agree.0 agree.1 agree.2 (same_object_with π t u (value_with_key π t f k) (value_with_key π u f k) (role.OfFamily f) c one
+    agree.3 agree.4 agree.5 at_one)
 
 -- the keys of the objects of a family, in their order
 abbrev pub HaveKeys : Preference → Data → Family → List Key → Type 0
 HaveKeys π t f keys = map (λ o. key_of π o.value) (objects f t) ≡ map Some keys
 
-pub keys_of_family : (π : Preference) (t : Data) (f : Family) (keys : List Key) → have_keys key_cmp (λ o. key_of π o.value) (objects f t) keys ≡ true → HaveKeys π t f keys
+pub keys_of_family : (π : Preference) (t : Data) (f : Family) (keys : List Key) → have_keys key_cmp (λ o. key_of π o.value) (objects f t) keys
+    ≡ true → HaveKeys π t f keys
 keys_of_family π t f keys h = keys_had key_cmp equal_keys (λ o. key_of π o.value) (objects f t) keys h
 
 -- a family means nothing at a key that is not among those of its objects
-pub nothing_at : (π : Preference) (t : Data) (f : Family) (keys : List Key) (k : Key) → HaveKeys π t f keys → is_key_in keys k ≡ false → records_of π t f k ≡ None
+pub nothing_at : (π : Preference) (t : Data) (f : Family) (keys : List Key) (k : Key) → HaveKeys π t f keys → is_key_in keys k ≡ false
+    → records_of π t f k ≡ None
 nothing_at π t f keys k have h = no_record π t f k (looked_for key_cmp (λ o. key_of π o.value) (objects f t) keys have k ∙ h)
 
 -- a family means the same in both reports, if its keys stand in any order and the object of each means the same
-pub same_family : (π : Preference) (t u : Data) (f : Family) (keys others : List Key) → HaveKeys π t f keys → HaveKeys π u f others → AreAmong keys others → AgreeAt (records_of π t f) (records_of π u f) keys
+pub same_family : (π : Preference) (t u : Data) (f : Family) (keys others : List Key) → HaveKeys π t f keys → HaveKeys π u f others → AreAmong keys others
+    → AgreeAt (records_of π t f) (records_of π u f) keys
     → (k : Key) → records_of π t f k ≡ records_of π u f k
 same_family π t u f keys others have have_others among agree =
     same_at_every_key (records_of π t f) (records_of π u f) keys agree (λ k h. nothing_at π t f keys k have h)
@@ -234,10 +263,13 @@ abbrev pub selection_with_name : Preference → Data → List Data → NameParts
 selection_with_name π t ds n = unwrap_or (find (has_name π t n) ds) null
 
 -- the selections of one name mean the same in both
-pub same_with_name : (π : Preference) (t u : Data) (ds es : List Data) (n : NameParts) → is_some (find (has_name π t n) ds) ≡ true → is_some (find (has_name π u n) es) ≡ true
-    → selection_record π t (selection_with_name π t ds n) ≡ selection_record π u (selection_with_name π u es n) → selection_map π t ds n ≡ selection_map π u es n
+pub same_with_name : (π : Preference) (t u : Data) (ds es : List Data) (n : NameParts) → is_some (find (has_name π t n) ds) ≡ true
+    → is_some (find (has_name π u n) es) ≡ true
+    → selection_record π t (selection_with_name π t ds n) ≡ selection_record π u (selection_with_name π u es n) → selection_map π t ds n
+    ≡ selection_map π u es n
 same_with_name π t u ds es n left right same =
-    ap (option_and_then (selection_record π t)) (one_found (find (has_name π t n) ds) null left) ∙ (same ∙ sym (ap (option_and_then (selection_record π u)) (one_found (find (has_name π u n) es) null right)))
+    ap (option_and_then (selection_record π t)) (one_found (find (has_name π t n) ds) null left)
+    ∙ (same ∙ sym (ap (option_and_then (selection_record π u)) (one_found (find (has_name π u n) es) null right)))
 
 -- both have a selection of this name and class, with the same members but for one
 abbrev pub SelectionsAgreeButOne : Preference → Data → Data → List Data → List Data → NameParts → Class → List ℕ → Type 0
@@ -248,20 +280,23 @@ SelectionsAgreeButOne π t u ds es n c one =
     × (map (plain_member π t d c) (but_one one (names_of_both d e)) ≡ map (plain_member π u e c) (but_one one (names_of_both d e)))
 
 pub same_at_name : (π : Preference) (t u : Data) (ds es : List Data) (n : NameParts) (c : Class) (one : List ℕ) → SelectionsAgreeButOne π t u ds es n c one
-    → plain_member π t (selection_with_name π t ds n) c one ≡ plain_member π u (selection_with_name π u es n) c one → selection_map π t ds n ≡ selection_map π u es n
+    → plain_member π t (selection_with_name π t ds n) c one ≡ plain_member π u (selection_with_name π u es n) c one → selection_map π t ds n
+    ≡ selection_map π u es n
 same_at_name π t u ds es n c one agree at_one =
-    same_with_name π t u ds es n agree.0 agree.1 (same_selection_with π t u (selection_with_name π t ds n) (selection_with_name π u es n) c one agree.2 agree.3 agree.4 at_one)
+    same_with_name π t u ds es n agree.0 agree.1 (same_selection_with π t u (selection_with_name π t ds n) (selection_with_name π u es n) c one agree.2
+    agree.3 agree.4 at_one)
 
 -- the names of selections, in their order
 abbrev pub HaveNames : Preference → Data → List Data → List NameParts → Type 0
 HaveNames π t ds names = map (name_of π t) ds ≡ map Some names
 
-pub names_of_selections : (π : Preference) (t : Data) (ds : List Data) (names : List NameParts) → have_keys name_cmp (name_of π t) ds names ≡ true → HaveNames π t ds names
+pub names_of_selections : (π : Preference) (t : Data) (ds : List Data) (names : List NameParts) → have_keys name_cmp (name_of π t) ds names ≡ true
+    → HaveNames π t ds names
 names_of_selections π t ds names h = keys_had name_cmp equal_names (name_of π t) ds names h
 
 -- two maps of selections are equal, if their names stand in any order and the selection of each means the same
-pub same_selections : (π : Preference) (t u : Data) (ds es : List Data) (names others : List NameParts) → HaveNames π t ds names → HaveNames π u es others → AreAmong names others
-    → AgreeAt (selection_map π t ds) (selection_map π u es) names → selection_map π t ds ≡ selection_map π u es
+pub same_selections : (π : Preference) (t u : Data) (ds es : List Data) (names others : List NameParts) → HaveNames π t ds names → HaveNames π u es others
+    → AreAmong names others → AgreeAt (selection_map π t ds) (selection_map π u es) names → selection_map π t ds ≡ selection_map π u es
 same_selections π t u ds es names others have have_others among agree =
     fun_ext (same_at_every (λ m n. is_eq (name_cmp m n)) equal_names (selection_map π t ds) (selection_map π u es) names agree
     (λ n h. ap (option_and_then (selection_record π t)) (none_found (has_name π t n) ds (looked_for name_cmp (name_of π t) ds names have n ∙ h)))
@@ -291,7 +326,8 @@ same_sole_election π ρ t u d e left right keys same k =
 -- ---- the whole
 
 -- reports mean the same, if they do, and their elections and objects at each key
-pub same_meaning : (π ρ : Preference) (t u : Data) → object_record π t role.Report t ≡ object_record ρ u role.Report u → ((k : Option Key) → election_records π t k ≡ election_records ρ u k)
+pub same_meaning : (π ρ : Preference) (t u : Data) → object_record π t role.Report t ≡ object_record ρ u role.Report u
+    → ((k : Option Key) → election_records π t k ≡ election_records ρ u k)
     → ((f : Family) (k : Key) → records_of π t f k ≡ records_of ρ u f k) → meaning π t ≡ meaning ρ u
 same_meaning π ρ t u report elections at_key =
     ap (λ x. record { report = x; elections = election_records π t; objects = records_of π t }) report

@@ -1,5 +1,9 @@
 -- When two objects have one record: they agree at the names that either has, and neither has any other.
-use Rattle.erd_meaning.proofs.Common.{◌≡◌, ℕ, Bool, true, false, cond, ◌||◌, List, [], ◌∷◌, map, Some, None, codes, Option, option_map, option_and_then, bytes_eq, nat_cmp, is_eq, Ordering, sym, refl, ap, ◌∙◌, subst, ap₂, true≢false, fun_ext, or_parts, bytes_eq-Decides, slice_cmp, list_any, match_ordering, Data, object, Members, no_members, member, get_member, get, kind_of_member, Class, class, family, MemberKind, kind, Preference, PlainValue, MemberValue, a_plain, ObjectRecord, plain_value, is_in_envelope, plain_member, member_value, member_of_class, with_election_id, record_in_election, Key, arith}
+use Rattle.erd_meaning.proofs.Common.{◌≡◌, ℕ, Bool, true, false, cond, ◌||◌, List, [], ◌∷◌, map, Some, None, codes, Option, option_map, option_and_then}
+use Rattle.erd_meaning.proofs.Common.{bytes_eq, nat_cmp, is_eq, Ordering, sym, refl, ap, ◌∙◌, subst, ap₂, true≢false, fun_ext, or_parts, bytes_eq-Decides}
+use Rattle.erd_meaning.proofs.Common.{slice_cmp, list_any, match_ordering, Data, object, Members, no_members, member, get_member, get, kind_of_member, Class}
+use Rattle.erd_meaning.proofs.Common.{class, family, MemberKind, kind, Preference, PlainValue, MemberValue, a_plain, ObjectRecord, plain_value, is_in_envelope}
+use Rattle.erd_meaning.proofs.Common.{plain_member, member_value, member_of_class, with_election_id, record_in_election, Key, arith}
 use Rattle.std.proofs.lemmas.Map.Text.{is_eq-slice_cmp}
 
 -- the names of an object
@@ -34,7 +38,8 @@ nothing_meant π t k plain e = ap (option_map a_plain) e
 -- a member that is not there means nothing
 pub absent_plain : (π : Preference) (t d : Data) (c : Class) (name : List ℕ) → get name d ≡ None → plain_member π t d c name ≡ None
 absent_plain π t d c name e =
-    ap (λ o. cond (is_in_envelope c name) None (option_and_then (plain_value π t (kind_of_member c name)) o)) e ∙ nothing_either_way (is_in_envelope c name) None refl
+    ap (λ o. cond (is_in_envelope c name) None (option_and_then (plain_value π t (kind_of_member c name)) o)) e
+    ∙ nothing_either_way (is_in_envelope c name) None refl
 
 pub absent_member : (π : Preference) (t d : Data) (c : Class) (name : List ℕ) → get name d ≡ None → member_of_class π t d c name ≡ None
 absent_member π t d c name e =
@@ -43,7 +48,8 @@ absent_member π t d c name e =
 
 -- ---- at every name
 
-agree_at : {V : Type 0} (f g : List ℕ → V) (names : List (List ℕ)) (name : List ℕ) → map f names ≡ map g names → list_any (bytes_eq name) names ≡ true → f name ≡ g name
+agree_at : {V : Type 0} (f g : List ℕ → V) (names : List (List ℕ)) (name : List ℕ) → map f names ≡ map g names → list_any (bytes_eq name) names
+    ≡ true → f name ≡ g name
 agree_at f g [] name e among = absurd (true≢false (sym among))
 agree_at f g (n ∷ ns) name e among = at (bytes_eq name n) refl among (agree_at f g ns name (ap drop_first e))
   where
@@ -102,7 +108,8 @@ no_election_id π t d c =
 -- ---- apart again
 
 -- at any other name stands the member of the object
-pub other_than_election : (k : Option Key) (members : List ℕ → Option MemberValue) (name : List ℕ) → bytes_eq name (codes "ElectionId") ≡ false → with_election_id k members name ≡ members name
+pub other_than_election : (k : Option Key) (members : List ℕ → Option MemberValue) (name : List ℕ) → bytes_eq name (codes "ElectionId") ≡ false
+    → with_election_id k members name ≡ members name
 other_than_election None members name other = refl
 other_than_election (Some k) members name other = rw other refl
 
@@ -123,5 +130,8 @@ pub apart_from_election : (a b : ObjectRecord) (k l : Option Key) → a.members 
     → record_in_election k a ≡ record_in_election l b → (k ≡ l) × (a ≡ b)
 apart_from_election a b k l without without' e =
     let members : with_election_id k a.members ≡ with_election_id l b.members = ap (λ r. r.members) e in
-    let same : a.members ≡ b.members = fun_ext (λ name. members_apart k l a.members b.members without without' members name (bytes_eq name (codes "ElectionId")) refl) in
-    (key_apart k l a.members b.members without without' (ap (λ f. f (codes "ElectionId")) members), ap₂ (λ (c : Class) (m : List ℕ → Option MemberValue). record { class = c; members = m }) (ap (λ r. r.class) e) same)
+    let same : a.members ≡ b.members =
+    fun_ext (λ name. members_apart k l a.members b.members without without' members name (bytes_eq name (codes "ElectionId")) refl) in (
+      key_apart k l a.members b.members without without' (ap (λ f. f (codes "ElectionId")) members),
+      ap₂ (λ (c : Class) (m : List ℕ → Option MemberValue). record { class = c; members = m }) (ap (λ r. r.class) e) same,
+    )

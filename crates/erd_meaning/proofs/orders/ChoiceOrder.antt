@@ -1,6 +1,9 @@
 -- What comes first in the order in which the program chooses among identifiers is the key that they give; the order is
 -- total, and tells unequal triples apart.
-use Rattle.erd_meaning.proofs.Common.{◌≡◌, Bool, true, false, List, [], ◌∷◌, map, Some, None, filter, is_lt, sym, refl, ap, ◌∙◌, on_total, then_total, back_total, CmpEqualImpliesEq, IsTotalOrder, bool_cmp_total, option_or, bool_cmp, Data, then_both, key_cmp, triple_of, lesser_key, least_key_of, least_key, Preference, preferred_key, key_of_identifiers, is_preferred, choice_cmp, choice_of_two, choice_of, choice, key_cmp_total, key_cmp_exact, Key, cond_both}
+use Rattle.erd_meaning.proofs.Common.{◌≡◌, Bool, true, false, List, [], ◌∷◌, map, Some, None, filter, is_lt, sym, refl, ap, ◌∙◌, on_total, then_total}
+use Rattle.erd_meaning.proofs.Common.{back_total, CmpEqualImpliesEq, IsTotalOrder, bool_cmp_total, option_or, bool_cmp, Data, then_both, key_cmp, triple_of}
+use Rattle.erd_meaning.proofs.Common.{lesser_key, least_key_of, least_key, Preference, preferred_key, key_of_identifiers, is_preferred, choice_cmp}
+use Rattle.erd_meaning.proofs.Common.{choice_of_two, choice_of, choice, key_cmp_total, key_cmp_exact, Key, cond_both}
 
 pub choice_cmp_total : (π : Preference) → IsTotalOrder (choice_cmp π)
 choice_cmp_total π = then_total (back_total (on_total (is_preferred π) bool_cmp_total)) key_cmp_total
@@ -55,7 +58,8 @@ chosen_key None [] = refl
 chosen_key (Some type) [] = refl
 chosen_key π (k ∷ ks) =
     ap (λ o. option_or o (least_key (k ∷ ks))) (preferred-filter π (k ∷ ks))
-    ∙ sym (cond_both (is_preferred π k) (k ∷ filter (is_preferred π) ks) (filter (is_preferred π) ks) (λ ms. Some (choice_of π k ks) ≡ option_or (least_key ms) (least_key (k ∷ ks)))
+    ∙ sym (cond_both (is_preferred π k) (k ∷ filter (is_preferred π) ks) (filter (is_preferred π) ks)
+    (λ ms. Some (choice_of π k ks) ≡ option_or (least_key ms) (least_key (k ∷ ks)))
     (λ is. ap Some (choice_of-preferred π k ks is)) (λ is. choice_of-other π k ks is))
 
 -- the key that identifiers give is the one to choose

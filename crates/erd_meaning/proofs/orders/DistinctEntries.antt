@@ -1,5 +1,9 @@
 -- Lists and sets in which no two entries compare as equal.
-use Rattle.erd_meaning.proofs.Common.{◌≡◌, ℕ, zero, suc, ◌<◌, Bool, true, false, ◌⊎◌, List, [], ◌∷◌, map, take, slice_get, Some, Ordering, Equal, sym, refl, ap, ◌∙◌, subst, inl, inr, true≢false, arith, false_from_ne_true, Equal-is, IsDistinct, eq_by_cmp, Data, Items, no_items, item, get_item, In, In-map_from, any_at, all_from_In, In-all, position_of, is_same_json, list_of_items, is_repeated, None, Option, is_eq, option_cmp, NameParts, key_cmp, name_cmp, key_cmp_exact, name_cmp_exact, Key, tied_itself, CmpEqualImpliesEq, IsTotalOrder, list_any, IsStrictlySortedBy, rising_unique, In-any, In-map}
+use Rattle.erd_meaning.proofs.Common.{◌≡◌, ℕ, zero, suc, ◌<◌, Bool, true, false, ◌⊎◌, List, [], ◌∷◌, map, take, slice_get, Some, Ordering, Equal, sym, refl, ap}
+use Rattle.erd_meaning.proofs.Common.{◌∙◌, subst, inl, inr, true≢false, arith, false_from_ne_true, Equal-is, IsDistinct, eq_by_cmp, Data, Items, no_items, item}
+use Rattle.erd_meaning.proofs.Common.{get_item, In, In-map_from, any_at, all_from_In, In-all, position_of, is_same_json, list_of_items, is_repeated, None}
+use Rattle.erd_meaning.proofs.Common.{Option, is_eq, option_cmp, NameParts, key_cmp, name_cmp, key_cmp_exact, name_cmp_exact, Key, tied_itself}
+use Rattle.erd_meaning.proofs.Common.{CmpEqualImpliesEq, IsTotalOrder, list_any, IsStrictlySortedBy, rising_unique, In-any, In-map}
 
 -- entries at two places pass no test
 pub distinct_from_places : {A : Type 0} (test : A → A → Bool) (xs : List A)
@@ -29,7 +33,8 @@ distinct_map f test (x ∷ xs) h = (
 )
 
 -- another test that passes less
-pub distinct_less : {A : Type 0} (test test' : A → A → Bool) (xs : List A) → ((x y : A) → In x xs → In y xs → test' x y ≡ true → test x y ≡ true) → IsDistinct test xs → IsDistinct test' xs
+pub distinct_less : {A : Type 0} (test test' : A → A → Bool) (xs : List A) → ((x y : A) → In x xs → In y xs → test' x y ≡ true → test x y ≡ true)
+    → IsDistinct test xs → IsDistinct test' xs
 unfolding IsDistinct
 distinct_less test test' [] less h = tt
 distinct_less test test' (x ∷ xs) less h = (
@@ -48,10 +53,12 @@ distinct_one {A} g test (z ∷ zs) d x y h k t u = at h k (distinct_one g test z
     at : (z ≡ x) ⊎ In x zs → (z ≡ y) ⊎ In y zs → (In x zs → In y zs → test (g x) (g y) ≡ true → test (g y) (g x) ≡ true → x ≡ y) → x ≡ y
     at (inl e) (inl f) more = sym e ∙ f
     at (inl e) (inr j) more =
-        let no_such : test (g x) (g y) ≡ false = subst (λ w. test (g w) (g y) ≡ false) e (In-all (λ b. test (g z) b ≡ false) (g y) (map g zs) d.0 (In-map g y zs j)) in
+        let no_such : test (g x) (g y) ≡ false = subst (λ w. test (g w) (g y) ≡ false) e
+        (In-all (λ b. test (g z) b ≡ false) (g y) (map g zs) d.0 (In-map g y zs j)) in
         absurd (true≢false (sym t ∙ no_such))
     at (inr i) (inl f) more =
-        let no_such : test (g y) (g x) ≡ false = subst (λ w. test (g w) (g x) ≡ false) f (In-all (λ b. test (g z) b ≡ false) (g x) (map g zs) d.0 (In-map g x zs i)) in
+        let no_such : test (g y) (g x) ≡ false = subst (λ w. test (g w) (g x) ≡ false) f
+        (In-all (λ b. test (g z) b ≡ false) (g x) (map g zs) d.0 (In-map g x zs i)) in
         absurd (true≢false (sym u ∙ no_such))
     at (inr i) (inr j) more = more i j t u
 
@@ -69,20 +76,24 @@ get_item-slice (item v ds) zero d e = e
 get_item-slice (item v ds) (suc i) d e = get_item-slice ds i d e
 
 -- no entry is equal to an earlier one
-pub unrepeated_distinct : (ds : Items) → ((i : ℕ) (d : Data) → get_item i ds ≡ Some d → is_repeated ds i d ≡ false) → IsDistinct (λ d e. is_same_json e d) (list_of_items ds)
+pub unrepeated_distinct : (ds : Items) → ((i : ℕ) (d : Data) → get_item i ds ≡ Some d → is_repeated ds i d ≡ false)
+    → IsDistinct (λ d e. is_same_json e d) (list_of_items ds)
 unrepeated_distinct ds each = distinct_from_places (λ d e. is_same_json e d) (list_of_items ds) (λ i j d e l a b.
     false_from_ne_true (is_same_json e d) (λ same.
     true≢false (sym (any_at (is_same_json e) d (take j (list_of_items ds)) (in_taken (list_of_items ds) i j d l a) same) ∙ each j e (get_item-slice ds j e b))))
 
 -- nor compares as equal, where those that do are equal
 pub unrepeated_by_cmp : (cmp : Data → Data → Ordering) (ds : Items) → ((i : ℕ) (d : Data) → get_item i ds ≡ Some d → is_repeated ds i d ≡ false)
-    → ((d e : Data) → In d (list_of_items ds) → In e (list_of_items ds) → cmp d e ≡ Equal → is_same_json e d ≡ true) → IsDistinct (eq_by_cmp cmp) (list_of_items ds)
+    → ((d e : Data) → In d (list_of_items ds) → In e (list_of_items ds) → cmp d e ≡ Equal → is_same_json e d ≡ true)
+    → IsDistinct (eq_by_cmp cmp) (list_of_items ds)
 unrepeated_by_cmp cmp ds each equal =
-    distinct_less (λ d e. is_same_json e d) (eq_by_cmp cmp) (list_of_items ds) (λ d e i j h. equal d e i j ((Equal-is (cmp d e)).0 h)) (unrepeated_distinct ds each)
+    distinct_less (λ d e. is_same_json e d) (eq_by_cmp cmp) (list_of_items ds) (λ d e i j h. equal d e i j ((Equal-is (cmp d e)).0 h))
+    (unrepeated_distinct ds each)
 
 -- ---- keys and names that are equal in their orders are equal
 
-pub options_exact : {A : Type 0} (cmp : A → A → Ordering) → ((a b : A) → is_eq (cmp a b) ≡ true → a ≡ b) → (x y : Option A) → is_eq (option_cmp cmp x y) ≡ true → x ≡ y
+pub options_exact : {A : Type 0} (cmp : A → A → Ordering) → ((a b : A) → is_eq (cmp a b) ≡ true → a ≡ b) → (x y : Option A)
+    → is_eq (option_cmp cmp x y) ≡ true → x ≡ y
 options_exact cmp exact None None h = refl
 options_exact cmp exact (Some a) (Some b) h = ap Some (exact a b h)
 options_exact cmp exact x y h = absurd (cc h)
@@ -96,7 +107,8 @@ equal_names m n h = name_cmp_exact m n ((Equal-is (name_cmp m n)).0 h)
 -- ---- a set that is written as a rising list is determined by its membership test
 
 -- a set of what an order tells apart
-pub set_unique : {K : Type 0} (cmp : K → K → Ordering) → IsTotalOrder cmp → CmpEqualImpliesEq cmp → (xs ys : List K) → IsStrictlySortedBy cmp xs → IsStrictlySortedBy cmp ys
+pub set_unique : {K : Type 0} (cmp : K → K → Ordering) → IsTotalOrder cmp → CmpEqualImpliesEq cmp → (xs ys : List K) → IsStrictlySortedBy cmp xs
+    → IsStrictlySortedBy cmp ys
     → ((k : K) → list_any (λ l. is_eq (cmp l k)) xs ≡ list_any (λ l. is_eq (cmp l k)) ys) → xs ≡ ys
 set_unique {K} cmp order exact xs ys rise rise' same = rising_unique cmp order xs ys rise rise' (over xs ys same) (over ys xs (λ k. sym (same k)))
   where

@@ -1,6 +1,8 @@
 -- The rank of a key among the keys of a list is the number of entries with lesser keys. Wherever entries have the keys, the
 -- ranks are in the order of the keys.
-use Rattle.erd_meaning.proofs.Common.{◌≡◌, ℕ, ◌<◌, Bool, true, List, length, Some, None, filter, Option, nat_cmp, is_lt, Ordering, Less, Equal, Greater, sym, refl, ap, ◌∙◌, tied_itself, option_cmp, ordering_reverse, nat_cmp_total, less, In, key_cmp, key_cmp_total, key_cmp_exact, Key}
+use Rattle.erd_meaning.proofs.Common.{◌≡◌, ℕ, ◌<◌, Bool, true, List, length, Some, None, filter, Option, nat_cmp, is_lt, Ordering, Less, Equal, Greater, sym}
+use Rattle.erd_meaning.proofs.Common.{refl, ap, ◌∙◌, tied_itself, option_cmp, ordering_reverse, nat_cmp_total, less, In, key_cmp, key_cmp_total, key_cmp_exact}
+use Rattle.erd_meaning.proofs.Common.{Key}
 use Rattle.erd_check.proofs.Steps.{at_less}
 use Rattle.erd_text.proofs.RisingOrders.{more_pass}
 
@@ -39,5 +41,6 @@ module _ {A : Type 0} (key : A → Option Key) (xs : List A) where
       at Less is = at_less (counted_rank k) (counted_rank l) (rank_grows k l has is)
       at Equal is = ap (λ x. nat_cmp (counted_rank k) (counted_rank x)) (sym (key_cmp_exact k l is)) ∙ tied_itself nat_cmp_total (counted_rank k)
       at Greater is =
-          let turned : nat_cmp (counted_rank l) (counted_rank k) ≡ Less = at_less (counted_rank l) (counted_rank k) (rank_grows l k other (key_cmp_total.antisymm l k ∙ ap ordering_reverse is)) in
+          let turned : nat_cmp (counted_rank l) (counted_rank k) ≡ Less =
+          at_less (counted_rank l) (counted_rank k) (rank_grows l k other (key_cmp_total.antisymm l k ∙ ap ordering_reverse is)) in
           nat_cmp_total.antisymm (counted_rank k) (counted_rank l) ∙ ap ordering_reverse turned

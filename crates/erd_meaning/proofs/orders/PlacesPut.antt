@@ -1,5 +1,6 @@
 -- The places of positions, each put at its position: the list of places is the inverse of the list of positions.
-use Rattle.erd_meaning.proofs.Common.{◌≡◌, ℕ, zero, suc, ◌+◌, ◌<◌, List, [], ◌∷◌, length, slice_get, slice_set, Some, sym, refl, ap, ◌∙◌, subst, ap₂, arith, length-set, AllByRecursion, all_from_In, places_put, position_of}
+use Rattle.erd_meaning.proofs.Common.{◌≡◌, ℕ, zero, suc, ◌+◌, ◌<◌, List, [], ◌∷◌, length, slice_get, slice_set, Some, sym, refl, ap, ◌∙◌, subst, ap₂, arith}
+use Rattle.erd_meaning.proofs.Common.{length-set, AllByRecursion, all_from_In, places_put, position_of}
 
 -- one entry set
 pub set_other : (ns : List ℕ) (i j n : ℕ) → (i ≡ j → ⊥) → slice_get (slice_set ns i n) j ≡ slice_get ns j
@@ -23,7 +24,8 @@ untouched (j ∷ is) r ns i apart = untouched is (r + 1) (slice_set ns j r) i ap
 abbrev pub StandOnce : List ℕ → Type 0
 StandOnce is = (j k i : ℕ) → slice_get is j ≡ Some i → slice_get is k ≡ Some i → j ≡ k
 
-pub put_at : (is : List ℕ) (r : ℕ) (ns : List ℕ) (j i : ℕ) → StandOnce is → slice_get is j ≡ Some i → i < length ns → slice_get (places_put r is ns) i ≡ Some (r + j)
+pub put_at : (is : List ℕ) (r : ℕ) (ns : List ℕ) (j i : ℕ) → StandOnce is → slice_get is j ≡ Some i → i < length ns
+    → slice_get (places_put r is ns) i ≡ Some (r + j)
 put_at [] r ns j i once e low = cc
 put_at (h ∷ is) r ns zero i once e low =
     let same : h ≡ i = cc in
@@ -32,13 +34,11 @@ put_at (h ∷ is) r ns zero i once e low =
     let p = position_of is k inside in
     let two : 0 ≡ suc p.0 = once 0 (suc p.0) i e (p.1 ∙ ap Some is_i) in
     omega arith) in
-    untouched is (r + 1) (slice_set ns h r) i others
-    ∙ (subst (λ k. slice_get (slice_set ns k r) i ≡ Some r) (sym same) (set_here ns i r low) ∙ ap Some count)
+    untouched is (r + 1) (slice_set ns h r) i others ∙ (subst (λ k. slice_get (slice_set ns k r) i ≡ Some r) (sym same) (set_here ns i r low) ∙ ap Some count)
 put_at (h ∷ is) r ns (suc j) i once e low =
     let count : (r + 1) + j ≡ r + suc j = omega arith in
     put_at is (r + 1) (slice_set ns h r) j i (λ a b k x y. let two : suc a ≡ suc b = once (suc a) (suc b) k x y in omega arith) e
-    (subst (λ n. i < n) (sym (length-set ns h r)) low)
-    ∙ ap Some count
+    (subst (λ n. i < n) (sym (length-set ns h r)) low) ∙ ap Some count
 
 pub length_put : (r : ℕ) (is ns : List ℕ) → length (places_put r is ns) ≡ length ns
 length_put r [] ns = refl

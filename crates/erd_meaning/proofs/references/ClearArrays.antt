@@ -1,5 +1,9 @@
 -- Arrays of references in which no reason is told: each names an object of the family, and no two entries of a set name one.
-use Rattle.erd_meaning.proofs.Common.{◌≡◌, ℕ, ◌+◌, ◌<◌, ◌≤◌, Bool, true, false, ◌&&◌, ◌||◌, List, [], ◌∷◌, ◌++◌, map, length, get_or, drop, ◌==◌, Some, sym, refl, ap, ◌∙◌, subst, ap₂, append_assoc, arith, ne_eqb, eqb-false, false_from_ne_true, drop_more, at_drop_all, bytes_decides, AllByRecursion, IsDistinct, list_any, ⊤, Data, items_of, view, Value, Family, Repeated, Step, At, is_same_json, faults_of, told_at, told_of_items, Reference, number_among, Kept, reason_if, id_reasons, reference_reasons_told, AreClear, IsClear, IsRisingFrom}
+use Rattle.erd_meaning.proofs.Common.{◌≡◌, ℕ, ◌+◌, ◌<◌, ◌≤◌, Bool, true, false, ◌&&◌, ◌||◌, List, [], ◌∷◌, ◌++◌, map, length, get_or, drop, ◌==◌, Some, sym}
+use Rattle.erd_meaning.proofs.Common.{refl, ap, ◌∙◌, subst, ap₂, append_assoc, arith, ne_eqb, eqb-false, false_from_ne_true, drop_more, at_drop_all}
+use Rattle.erd_meaning.proofs.Common.{bytes_decides, AllByRecursion, IsDistinct, list_any, ⊤, Data, items_of, view, Value, Family, Repeated, Step, At}
+use Rattle.erd_meaning.proofs.Common.{is_same_json, faults_of, told_at, told_of_items, Reference, number_among, Kept, reason_if, id_reasons}
+use Rattle.erd_meaning.proofs.Common.{reference_reasons_told, AreClear, IsClear, IsRisingFrom}
 
 -- ---- numbers that differ
 
@@ -45,40 +49,47 @@ module _ (ks : List Kept) (outer : Data) (f : Family) where
   in_the_middle P [] n ns all = all.0
   in_the_middle P (m ∷ ms) n ns all = in_the_middle P ms n ns all.1
 
-  not_repeated : (earlier : List Data) (ms : List ℕ) (d : Data) (n : ℕ) (ns : List ℕ) → ArePlaced earlier ms → IsClear ks outer f d n → IsDistinct (λ a b. a == b) (ms ++ n ∷ ns) → list_any (is_same_json d) earlier ≡ false
+  not_repeated : (earlier : List Data) (ms : List ℕ) (d : Data) (n : ℕ) (ns : List ℕ) → ArePlaced earlier ms → IsClear ks outer f d n
+      → IsDistinct (λ a b. a == b) (ms ++ n ∷ ns) → list_any (is_same_json d) earlier ≡ false
   unfolding IsDistinct
   not_repeated [] ms d n ns placed one differ = refl
   not_repeated (e ∷ earlier) [] d n ns placed one differ = absurd placed
   not_repeated (e ∷ earlier) (m ∷ ms) d n ns placed one differ =
       let apart : (m == n) ≡ false = in_the_middle (λ y. (m == y) ≡ false) ms n ns differ.0 in
-      ap₂ ◌||◌ (false_from_ne_true (is_same_json d e) (λ same. eqb-false m n apart (one_object d e n m one placed.0 same))) (not_repeated earlier ms d n ns placed.1 one differ.1)
+      ap₂ ◌||◌ (false_from_ne_true (is_same_json d e) (λ same. eqb-false m n apart (one_object d e n m one placed.0 same)))
+      (not_repeated earlier ms d n ns placed.1 one differ.1)
 
-  repeats_nothing : (is_set : Bool) (earlier : List Data) (ms : List ℕ) (d : Data) (n : ℕ) (ns : List ℕ) → ArePlaced earlier ms → IsClear ks outer f d n → (is_set ≡ true → IsDistinct (λ a b. a == b) (ms ++ n ∷ ns))
-      → (is_set && list_any (is_same_json d) earlier) ≡ false
+  repeats_nothing : (is_set : Bool) (earlier : List Data) (ms : List ℕ) (d : Data) (n : ℕ) (ns : List ℕ) → ArePlaced earlier ms → IsClear ks outer f d n
+      → (is_set ≡ true → IsDistinct (λ a b. a == b) (ms ++ n ∷ ns)) → (is_set && list_any (is_same_json d) earlier) ≡ false
   repeats_nothing true earlier ms d n ns placed one differ = not_repeated earlier ms d n ns placed one (differ refl)
   repeats_nothing false earlier ms d n ns placed one differ = refl
 
-  entry_told : (owner : Data) (q : List Step) (repeated : Bool) (d : Data) (n : ℕ) → IsClear ks outer f d n → repeated ≡ false → told_at (reference_reasons_told ks) outer owner q (Reference f) repeated d ≡ []
+  entry_told : (owner : Data) (q : List Step) (repeated : Bool) (d : Data) (n : ℕ) → IsClear ks outer f d n → repeated ≡ false
+      → told_at (reference_reasons_told ks) outer owner q (Reference f) repeated d ≡ []
   entry_told owner q repeated d n one first =
       ap (told_at (reference_reasons_told ks) outer owner q (Reference f) repeated) one.is
-      ∙ ap (λ b. faults_of q (reason_if b Repeated ++ id_reasons ks outer f one.text)) first
-      ∙ ap (faults_of q) one.clear
+      ∙ ap (λ b. faults_of q (reason_if b Repeated ++ id_reasons ks outer f one.text)) first ∙ ap (faults_of q) one.clear
 
-  entries_told : (is_set : Bool) (earlier ds : List Data) (ms ns : List ℕ) → ArePlaced earlier ms → ArePlaced ds ns → (is_set ≡ true → IsDistinct (λ a b. a == b) (ms ++ ns))
+  entries_told : (is_set : Bool) (earlier ds : List Data) (ms ns : List ℕ) → ArePlaced earlier ms → ArePlaced ds ns
+      → (is_set ≡ true → IsDistinct (λ a b. a == b) (ms ++ ns))
       → (owner : Data) (p : List Step) → told_of_items (reference_reasons_told ks) outer owner p (Reference f) is_set earlier (items_of ds) ≡ []
   entries_told is_set earlier [] ms ns before placed differ owner p = refl
   entries_told is_set earlier (d ∷ ds) ms [] before placed differ owner p = absurd placed
   entries_told is_set earlier (d ∷ ds) ms (n ∷ ns) before placed differ owner p =
       ap₂ ◌++◌
-      (entry_told owner (p ++ At (length earlier) ∷ []) (is_set && list_any (is_same_json d) earlier) d n placed.0 (repeats_nothing is_set earlier ms d n ns before placed.0 differ))
-      (entries_told is_set (earlier ++ d ∷ []) ds (ms ++ n ∷ []) ns (placed_last earlier ms d n before placed.0) placed.1 (λ t. subst (IsDistinct (λ a b. a == b)) (sym (append_assoc ms (n ∷ []) ns)) (differ t)) owner p)
+      (entry_told owner (p ++ At (length earlier) ∷ []) (is_set && list_any (is_same_json d) earlier) d n placed.0
+      (repeats_nothing is_set earlier ms d n ns before placed.0 differ))
+      (entries_told is_set (earlier ++ d ∷ []) ds (ms ++ n ∷ []) ns (placed_last earlier ms d n before placed.0) placed.1
+      (λ t. subst (IsDistinct (λ a b. a == b)) (sym (append_assoc ms (n ∷ []) ns)) (differ t)) owner p)
 
-  pub clear_array : (is_set : Bool) (ds : List Data) (ns : List ℕ) → ArePlaced ds ns → (is_set ≡ true → IsDistinct (λ a b. a == b) ns) → AreClear ks outer f is_set (items_of ds)
+  pub clear_array : (is_set : Bool) (ds : List Data) (ns : List ℕ) → ArePlaced ds ns → (is_set ≡ true → IsDistinct (λ a b. a == b) ns)
+      → AreClear ks outer f is_set (items_of ds)
   clear_array is_set ds ns placed differ owner p = entries_told is_set [] ds [] ns tt placed differ owner p
 
   -- ---- what is left of an array
 
-  pub placed_left : (vs : List Value) (i : ℕ) (v : Value) (n : ℕ) (ns : List ℕ) → i < length vs → v ≡ get_or vs i v → IsClear ks outer f (view v) n → ArePlaced (map view (drop (i + 1) vs)) ns → ArePlaced (map view (drop i vs)) (n ∷ ns)
+  pub placed_left : (vs : List Value) (i : ℕ) (v : Value) (n : ℕ) (ns : List ℕ) → i < length vs → v ≡ get_or vs i v → IsClear ks outer f (view v) n
+      → ArePlaced (map view (drop (i + 1) vs)) ns → ArePlaced (map view (drop i vs)) (n ∷ ns)
   placed_left vs i v n ns inside is one more =
       subst (λ (ws : List Value). ArePlaced (map view ws) (n ∷ ns)) (sym (drop_more vs i v inside ∙ ap (λ w. w ∷ drop (i + 1) vs) (sym is))) (one, more)
 

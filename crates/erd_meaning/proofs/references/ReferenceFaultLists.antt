@@ -1,5 +1,9 @@
 -- The reasons of a reference at its place: they rise, each is a fault, and none is left out.
-use Rattle.erd_meaning.proofs.Common.{◌≡◌, ℕ, ◌-◌, Bool, true, false, ◌&&◌, List, [], ◌∷◌, ◌++◌, length, take, drop, IsSomeAnd, IsTrue, Some, None, codes, filter, Option, bytes_eq, sym, refl, ap, ◌∙◌, subst, inl, inr, true≢false, arith, length-append, take-append-drop, rules, drop-append_seam, take-append_seam, and_parts, and_from, bytes_eq-Decides, IsStrictlySortedBy, option_map_or, Data, reason_cmp, Reason, Repeated, SelectionOfOtherContest, Unresolved, WrongFamily, Step, At, Name, In, In-filter_kept, outer_place, Asked, asked_at, is_reference_fault, is_other_selection, entry_place, ReferenceFault, NamesOtherContest}
+use Rattle.erd_meaning.proofs.Common.{◌≡◌, ℕ, ◌-◌, Bool, true, false, ◌&&◌, List, [], ◌∷◌, ◌++◌, length, take, drop, IsSomeAnd, IsTrue, Some, None, codes}
+use Rattle.erd_meaning.proofs.Common.{filter, Option, bytes_eq, sym, refl, ap, ◌∙◌, subst, inl, inr, true≢false, arith, length-append, take-append-drop, rules}
+use Rattle.erd_meaning.proofs.Common.{drop-append_seam, take-append_seam, and_parts, and_from, bytes_eq-Decides, IsStrictlySortedBy, option_map_or, Data}
+use Rattle.erd_meaning.proofs.Common.{reason_cmp, Reason, Repeated, SelectionOfOtherContest, Unresolved, WrongFamily, Step, At, Name, In, In-filter_kept}
+use Rattle.erd_meaning.proofs.Common.{outer_place, Asked, asked_at, is_reference_fault, is_other_selection, entry_place, ReferenceFault, NamesOtherContest}
 
 -- ---- the entries of an object's list
 
@@ -61,7 +65,8 @@ object_from : (P : Asked → Bool) (o : Option Asked) → option_map_or P o fals
 object_from P None h = absurd (true≢false (sym h))
 object_from P (Some a) h = (a, refl, h)
 
-other_contest : (t : Data) (p : List Step) (a : Asked) → asked_at t p ≡ Some a → has_reference_reason t p a SelectionOfOtherContest ≡ true → NamesOtherContest t p
+other_contest : (t : Data) (p : List Step) (a : Asked) → asked_at t p ≡ Some a → has_reference_reason t p a SelectionOfOtherContest ≡ true
+    → NamesOtherContest t p
 other_contest t p a e h =
     let both = and_parts (are_entry_steps (last_steps p)) (stands_elsewhere t p a) h in
     let entry = entry_place_from p both.0 in
@@ -90,7 +95,8 @@ fault_of_reason t p a r e h = said_at (λ b. IsTrue (is_reference_fault t b r)) 
 abbrev pub HasReason : Data → List Step → Reason → Type 0
 HasReason t p r = (a : Asked) × (asked_at t p ≡ Some a) × In r (reference_reasons_at t p a)
 
-kept_there : (t : Data) (p : List Step) (r : Reason) (P : Asked → Bool) → ((a : Asked) → P a ≡ true → In r (reference_reasons_at t p a)) → (o : Option Asked) → asked_at t p ≡ o → IsSomeAnd o (λ a. IsTrue (P a)) → HasReason t p r
+kept_there : (t : Data) (p : List Step) (r : Reason) (P : Asked → Bool) → ((a : Asked) → P a ≡ true → In r (reference_reasons_at t p a)) → (o : Option Asked)
+    → asked_at t p ≡ o → IsSomeAnd o (λ a. IsTrue (P a)) → HasReason t p r
 kept_there t p r P kept None e h = absurd h
 kept_there t p r P kept (Some a) e h = (a, e, kept a h)
 
@@ -99,14 +105,21 @@ kept t p r a i h = In-filter_kept (has_reference_reason t p a) r reference_reaso
 
 other_kept : (t : Data) (p : List Step) → NamesOtherContest t p → HasReason t p SelectionOfOtherContest
 other_kept t p h =
-    let steps : are_entry_steps (last_steps p) ≡ true = ap (λ q. are_entry_steps (last_steps q)) h.place ∙ ap are_entry_steps (last_steps_of_entry h.object_place h.position) in
+    let steps : are_entry_steps (last_steps p) ≡ true = ap (λ q. are_entry_steps (last_steps q)) h.place
+    ∙ ap are_entry_steps (last_steps_of_entry h.object_place h.position) in
     let object : outer_place p ≡ h.object_place = ap outer_place h.place ∙ outer_place_entry h.object_place h.position in
-    let elsewhere : stands_elsewhere t p h.entry ≡ true = rw (object, h.ordered_contest_stands) h.elsewhere in
-    (h.entry, h.entry_stands, kept t p SelectionOfOtherContest h.entry (inr (inr (inr (inl refl)))) (and_from (are_entry_steps (last_steps p)) (stands_elsewhere t p h.entry) steps elsewhere))
+    let elsewhere : stands_elsewhere t p h.entry ≡ true = rw (object, h.ordered_contest_stands) h.elsewhere in (
+      h.entry,
+      h.entry_stands,
+      kept t p SelectionOfOtherContest h.entry (inr (inr (inr (inl refl))))
+          (and_from (are_entry_steps (last_steps p)) (stands_elsewhere t p h.entry) steps elsewhere),
+    )
 
 pub reason_of_fault : (t : Data) (p : List Step) (r : Reason) → ReferenceFault t p r → HasReason t p r
 reason_of_fault t p SelectionOfOtherContest h = other_kept t p h
 reason_of_fault t p Repeated h = kept_there t p Repeated (λ a. is_reference_fault t a Repeated) (λ a e. kept t p Repeated a (inl refl) e) (asked_at t p) refl h
-reason_of_fault t p Unresolved h = kept_there t p Unresolved (λ a. is_reference_fault t a Unresolved) (λ a e. kept t p Unresolved a (inr (inl refl)) e) (asked_at t p) refl h
-reason_of_fault t p WrongFamily h = kept_there t p WrongFamily (λ a. is_reference_fault t a WrongFamily) (λ a e. kept t p WrongFamily a (inr (inr (inl refl))) e) (asked_at t p) refl h
+reason_of_fault t p Unresolved h = kept_there t p Unresolved (λ a. is_reference_fault t a Unresolved)
+    (λ a e. kept t p Unresolved a (inr (inl refl)) e) (asked_at t p) refl h
+reason_of_fault t p WrongFamily h = kept_there t p WrongFamily (λ a. is_reference_fault t a WrongFamily)
+    (λ a e. kept t p WrongFamily a (inr (inr (inl refl))) e) (asked_at t p) refl h
 reason_of_fault t p r h = kept_there t p r (λ a. false) (λ a e. absurd (true≢false (sym e))) (asked_at t p) refl h

@@ -1,5 +1,12 @@
 -- What is looked up among the objects that are kept is what `@id` texts name, and whether a selection is of another contest.
-use Rattle.erd_meaning.proofs.Common.{◌≡◌, ℕ, Bool, true, false, cond, ◌&&◌, List, [], ◌∷◌, is_some, Some, None, filter, Option, option_map, find, bytes_eq, sym, refl, ap, ◌∙◌, inl, inr, and_from, bytes_eq-Decides, both_ways, list_any, option_map_or, Data, families, family_number, Family, family, In, any_at, In-any, NoneOf, Preference, IdentityFault, Placed, objects, id_of, has_id, owner, is_owned, is_of_family, keeps_id, Kept, kept_objects, same_id, is_known, owner_among, and-false, cases_Bool, zero, suc, ◌+◌, not, ◌⊎◌, map, ◌==◌, slice_get, codes, option_and_then, subst, ap₂, arith, Decides-eqb, same_Some, slice_get-map, enumerate_from, In-map, In-map_from, In-flat_map, text_at, is_selection_in, is_in_other_contest, id_in, FindsId, contests, selections_of_contest, numbered_selections_of, numbered_selections, owner_at, number_of_id, contests_before, is_in_contest, number_among, is_elsewhere, in_at, position_of}
+use Rattle.erd_meaning.proofs.Common.{◌≡◌, ℕ, Bool, true, false, cond, ◌&&◌, List, [], ◌∷◌, is_some, Some, None, filter, Option, option_map, find, bytes_eq}
+use Rattle.erd_meaning.proofs.Common.{sym, refl, ap, ◌∙◌, inl, inr, and_from, bytes_eq-Decides, both_ways, list_any, option_map_or, Data, families}
+use Rattle.erd_meaning.proofs.Common.{family_number, Family, family, In, any_at, In-any, NoneOf, Preference, IdentityFault, Placed, objects, id_of, has_id}
+use Rattle.erd_meaning.proofs.Common.{owner, is_owned, is_of_family, keeps_id, Kept, kept_objects, same_id, is_known, owner_among, and-false, cases_Bool, zero}
+use Rattle.erd_meaning.proofs.Common.{suc, ◌+◌, not, ◌⊎◌, map, ◌==◌, slice_get, codes, option_and_then, subst, ap₂, arith, Decides-eqb, same_Some}
+use Rattle.erd_meaning.proofs.Common.{slice_get-map, enumerate_from, In-map, In-map_from, In-flat_map, text_at, is_selection_in, is_in_other_contest, id_in}
+use Rattle.erd_meaning.proofs.Common.{FindsId, contests, selections_of_contest, numbered_selections_of, numbered_selections, owner_at, number_of_id}
+use Rattle.erd_meaning.proofs.Common.{contests_before, is_in_contest, number_among, is_elsewhere, in_at, position_of}
 use Rattle.erd_meaning.proofs.finding.OneObject.{kept_of, those_kept, among_first, one_id, with_part, owner_elsewhere, owner_here, owner_nowhere}
 use Rattle.erd_meaning.proofs.identity.ObjectFamilies.{itself, family_exact}
 use Rattle.erd_meaning.proofs.accepted.Standing.{values-placed_entries, has_id-from, has_id-Some}
@@ -24,7 +31,8 @@ every_family family.Selection = inr (inr (inr (inr (inr (inr (inr (inr (inl refl
 
 pub text_same : (a b : List ℕ) → bytes_eq a b ≡ bytes_eq b a
 text_same a b =
-    both_ways (bytes_eq a b) (bytes_eq b a) (λ h. (bytes_eq-Decides b a).1 (sym ((bytes_eq-Decides a b).0 h))) (λ h. (bytes_eq-Decides a b).1 (sym ((bytes_eq-Decides b a).0 h)))
+    both_ways (bytes_eq a b) (bytes_eq b a) (λ h. (bytes_eq-Decides b a).1 (sym ((bytes_eq-Decides a b).0 h)))
+    (λ h. (bytes_eq-Decides a b).1 (sym ((bytes_eq-Decides b a).0 h)))
 
 pub find_both : {A : Type 0} (p q : A → Bool) (xs : List A) → find (λ x. p x && q x) xs ≡ find q (filter p xs)
 find_both p q [] = refl
@@ -49,9 +57,11 @@ pub named_same : (id : List ℕ) (o : Option (List ℕ)) → same_id o (Some id)
 named_same id None = refl
 named_same id (Some a) = text_same a id
 
-find_kept : (π : Preference) (f : Family) (id : List ℕ) (os : List Placed) → option_map (λ k. k.value) (find (keeps_id id) (kept_of π f os)) ≡ option_map (λ o. o.value) (find (λ o. has_id id o.value) os)
+find_kept : (π : Preference) (f : Family) (id : List ℕ) (os : List Placed) → option_map (λ k. k.value) (find (keeps_id id) (kept_of π f os))
+    ≡ option_map (λ o. o.value) (find (λ o. has_id id o.value) os)
 find_kept π f id [] = refl
-find_kept π f id (o ∷ os) = rw (named_same id (id_of o.value)) (elim (cases_Bool (has_id id o.value)) [ inl is ↦ rw is refl | inr is ↦ rw is (find_kept π f id os) ])
+find_kept π f id (o ∷ os) =
+    rw (named_same id (id_of o.value)) (elim (cases_Bool (has_id id o.value)) [ inl is ↦ rw is refl | inr is ↦ rw is (find_kept π f id os) ])
 
 first_owner_same : (π : Preference) (t : Data) (f : Family) (id : List ℕ) → first_owner (kept_objects π t) f id ≡ owner t f id
 first_owner_same π t f id =
@@ -89,9 +99,11 @@ chosen_values contest id = ap (list_any (has_id id)) (sym (values-placed_entries
 to_chosen : (contest o : Placed) (id : List ℕ) → In o (selections_of_contest contest) → id_of o.value ≡ Some id → is_selection_in contest.value id ≡ true
 to_chosen contest o id i e =
     chosen_values contest id
-    ∙ any_at (has_id id) o.value (map (λ o. o.value) (selections_of_contest contest)) (In-map (λ (o : Placed). o.value) o (selections_of_contest contest) i) (has_id-from id o.value e)
+    ∙ any_at (has_id id) o.value (map (λ o. o.value) (selections_of_contest contest)) (In-map (λ (o : Placed). o.value) o (selections_of_contest contest) i)
+    (has_id-from id o.value e)
 
-from_chosen : (contest : Placed) (id : List ℕ) → is_selection_in contest.value id ≡ true → (o : Placed) × In o (selections_of_contest contest) × (id_of o.value ≡ Some id)
+from_chosen : (contest : Placed) (id : List ℕ) → is_selection_in contest.value id ≡ true → (o : Placed) × In o (selections_of_contest contest)
+    × (id_of o.value ≡ Some id)
 from_chosen contest id h =
     let d = In-any (has_id id) (map (λ o. o.value) (selections_of_contest contest)) (sym (chosen_values contest id) ∙ h) in
     let image = In-map_from (λ (o : Placed). o.value) (selections_of_contest contest) d.0 d.1 in
@@ -109,7 +121,8 @@ numbered_inside {A} k (suc c) x (y ∷ xs) e =
     inr (subst (λ n. In {A = ℕ × A} (n, x) (enumerate_from (k + 1) xs)) next (numbered_inside (k + 1) c x xs e))
 
 -- a selection of the contest at a position has its number
-with_its_number : (t : Data) (c : ℕ) (contest o : Placed) → slice_get (contests t) c ≡ Some contest → In o (selections_of_contest contest) → In {A = Numbered} (c, o) (numbered_selections t)
+with_its_number : (t : Data) (c : ℕ) (contest o : Placed) → slice_get (contests t) c ≡ Some contest → In o (selections_of_contest contest)
+    → In {A = Numbered} (c, o) (numbered_selections t)
 with_its_number t c contest o e i =
     let none : 0 + c ≡ c = omega arith in
     In-flat_map {A = Numbered} {B = Numbered} numbered_selections_of (c, o) (c, contest) (enumerate_from 0 (contests t))
@@ -125,7 +138,8 @@ record SelectionAt (t : Data) (s : ℕ) (id : List ℕ) : Type 0 where
 selection_at : (t : Data) (s : ℕ) (id : List ℕ) → id_in family.Selection t s ≡ Some id → SelectionAt t s id
 selection_at t s id e = from (slice_get (numbered_selections t) s) refl (numbered_at t s)
   where
-    from : (o : Option Numbered) → slice_get (numbered_selections t) s ≡ o → option_map (λ (x : Numbered). x.1) (slice_get (numbered_selections t) s) ≡ slice_get (objects family.Selection t) s → SelectionAt t s id
+    from : (o : Option Numbered) → slice_get (numbered_selections t) s ≡ o → option_map (λ (x : Numbered). x.1) (slice_get (numbered_selections t) s)
+        ≡ slice_get (objects family.Selection t) s → SelectionAt t s id
     from None is placed =
         let none : slice_get (objects family.Selection t) s ≡ None = sym placed ∙ ap (option_map (λ (x : Numbered). x.1)) is in
         let h : None ≡ Some id = sym (ap (option_and_then (λ (o : Placed). id_of o.value)) none) ∙ e in cc
@@ -135,7 +149,8 @@ selection_at t s id e = from (slice_get (numbered_selections t) s) refl (numbere
 
 module _ (π : Preference) (t : Data) (id : List ℕ) (none : NoneOf (IdentityFault π t)) where
   -- the number of the contest is that of each contest in which the `@id` is found
-  one_number : (s c : ℕ) (contest : Placed) (x : SelectionAt t s id) → id_in family.Selection t s ≡ Some id → slice_get (contests t) c ≡ Some contest → is_selection_in contest.value id ≡ true → x.one.0 ≡ c
+  one_number : (s c : ℕ) (contest : Placed) (x : SelectionAt t s id) → id_in family.Selection t s ≡ Some id → slice_get (contests t) c ≡ Some contest
+      → is_selection_in contest.value id ≡ true → x.one.0 ≡ c
   one_number s c contest x e is h =
       let o = from_chosen contest id h in
       let place = position_of {A = Numbered} (numbered_selections t) (c, o.0) (with_its_number t c contest o.0 is o.1) in
@@ -165,7 +180,8 @@ module _ (π : Preference) (t : Data) (id : List ℕ) (none : NoneOf (IdentityFa
   number_of_contest s c contest e is =
       let x = selection_at t s id e in
       let counted : slice_get (contests_before 0 (kept_objects π t)) s ≡ Some (x.one.0 + 1) =
-      ap (λ ns. slice_get ns s) (contests_counted_in π t) ∙ slice_get-map {A = Numbered} (λ y. y.0 + 1) (numbered_selections t) s ∙ ap (option_map (λ (y : Numbered). y.0 + 1)) x.at in
+      ap (λ ns. slice_get ns s) (contests_counted_in π t) ∙ slice_get-map {A = Numbered} (λ y. y.0 + 1) (numbered_selections t) s
+      ∙ ap (option_map (λ (y : Numbered). y.0 + 1)) x.at in
       ap (λ (o : Option ℕ). option_map_or (λ n. n == c + 1) o false) counted ∙ number_decides s c contest x e is
 
 -- ---- what is looked up
@@ -183,7 +199,8 @@ if_among f n = cond (family_number n.0 == family_number f) (Some n.1) None
 looked : (π : Preference) (t : Data) (f : Family) (id : List ℕ) → NoneOf (IdentityFault π t) → Looked π t f id
 looked π t f id none = at (number_of_id (kept_objects π t) id) refl (finds_kept_id π t id none)
   where
-    by : (n : Family × ℕ) → number_of_id (kept_objects π t) id ≡ Some n → FindsId t id (Some (n.0, n.1)) → (b : Bool) → (family_number n.0 == family_number f) ≡ b → Looked π t f id
+    by : (n : Family × ℕ) → number_of_id (kept_objects π t) id ≡ Some n → FindsId t id (Some (n.0, n.1)) → (b : Bool)
+        → (family_number n.0 == family_number f) ≡ b → Looked π t f id
     by n is finds true same = inr (
       n.1,
       ap (option_and_then (if_among f)) is ∙ ap (λ b. cond b (Some n.1) None) same,
@@ -205,7 +222,8 @@ told_by_number π t cid s = option_map_or (λ c. not (is_in_contest (kept_object
 abbrev told_by_contest : Data → List ℕ → List ℕ → Bool
 told_by_contest t cid id = option_map_or (λ contest. not (is_selection_in contest id)) (owner t family.Contest cid) false
 
-told_same : (π : Preference) (t : Data) (cid id : List ℕ) (s : ℕ) → NoneOf (IdentityFault π t) → id_in family.Selection t s ≡ Some id → told_by_number π t cid s ≡ told_by_contest t cid id
+told_same : (π : Preference) (t : Data) (cid id : List ℕ) (s : ℕ) → NoneOf (IdentityFault π t) → id_in family.Selection t s ≡ Some id → told_by_number π t cid s
+    ≡ told_by_contest t cid id
 told_same π t cid id s none e = elim (looked π t family.Contest cid none) [
   | inl missing ↦
       ap (λ (o : Option ℕ). option_map_or (λ c. not (is_in_contest (kept_objects π t) c s)) o false) missing.0
@@ -214,10 +232,12 @@ told_same π t cid id s none e = elim (looked π t family.Contest cid none) [
       let b = with_part (λ o. id_of o.value) family.Contest t found.0 cid found.2 in
       ap (λ (o : Option ℕ). option_map_or (λ c. not (is_in_contest (kept_objects π t) c s)) o false) found.1
       ∙ ap not (number_of_contest π t id none s found.0 b.0.one e b.0.at)
-      ∙ sym (ap (λ (o : Option Placed). option_map_or (λ contest. not (is_selection_in contest id)) (option_map (λ (o : Placed). o.value) o) false) (found.3 ∙ b.0.at))
+      ∙ sym (ap (λ (o : Option Placed). option_map_or (λ contest. not (is_selection_in contest id)) (option_map (λ (o : Placed). o.value) o) false)
+      (found.3 ∙ b.0.at))
 ]
 
-pub elsewhere_same : (π : Preference) (t u : Data) (id : List ℕ) → NoneOf (IdentityFault π t) → is_elsewhere (kept_objects π t) u id ≡ is_in_other_contest t u id
+pub elsewhere_same : (π : Preference) (t u : Data) (id : List ℕ) → NoneOf (IdentityFault π t) → is_elsewhere (kept_objects π t) u id
+    ≡ is_in_other_contest t u id
 elsewhere_same π t u id none =
     let cid = text_at (codes "ContestId") u in
     elim (looked π t family.Selection id none) [

@@ -1,11 +1,23 @@
 -- The walk that judges references tells exactly the faults of references; a selection is referred to in the list of an object
 -- alone.
-use Rattle.erd_meaning.proofs.Common.{◌≡◌, ℕ, ◌-◌, ◌<◌, ◌≤◌, Bool, true, false, cond, not, ◌&&◌, List, [], ◌∷◌, ◌++◌, length, take, Some, None, codes, filter, Option, option_map, option_and_then, bytes_eq, sym, refl, ap, ◌∙◌, subst, true≢false, arith, length-drop, take-append-drop, and_parts, and_from, bytes_eq-Decides, list_all, option_map_or, Data, array, object, get_member, get_item, reason_cmp, ListsAll, Row, rows_of_class, kind_of_identity, kind_of_member, is_required, Class, class, Family, family, Report, Fault, Reason, SelectionOfOtherContest, MemberKind, kind, Step, At, Name, tree_in_order, In, In-filter, In-filter_kept, IsStrictlySortedBy-filter, kind_of_name, kind_of_id, outer_place, IsTree, scope_inside, want_of_kind, is_report_class, member_want, carried_want, want_of_name, entry_want, is_compared_set, Asked, asked, is_repeated, asked_of_member, asked_inside, asked_from, asked_at, Want, ClassText, Member, Reference, Status, is_reference_fault, is_other_selection, ReferenceFault, inl, inr, cases_Bool, is_none, ap₂, append-nil, and-false, as_str, Repeated, Unresolved, WrongFamily, walk_lists, Agrees, Around, NoneOf, told_of_report, IsInOrder, Preference, IdentityFault, is_in_other_contest, owner, is_owned, kept_objects, is_known, is_of_others, is_selection_family, is_elsewhere, reason_if, id_reasons, reference_reasons_told, and-true, Carried}
+use Rattle.erd_meaning.proofs.Common.{◌≡◌, ℕ, ◌-◌, ◌<◌, ◌≤◌, Bool, true, false, cond, not, ◌&&◌, List, [], ◌∷◌, ◌++◌, length, take, Some, None, codes, filter}
+use Rattle.erd_meaning.proofs.Common.{Option, option_map, option_and_then, bytes_eq, sym, refl, ap, ◌∙◌, subst, true≢false, arith, length-drop}
+use Rattle.erd_meaning.proofs.Common.{take-append-drop, and_parts, and_from, bytes_eq-Decides, list_all, option_map_or, Data, array, object, get_member}
+use Rattle.erd_meaning.proofs.Common.{get_item, reason_cmp, ListsAll, Row, rows_of_class, kind_of_identity, kind_of_member, is_required, Class, class, Family}
+use Rattle.erd_meaning.proofs.Common.{family, Report, Fault, Reason, SelectionOfOtherContest, MemberKind, kind, Step, At, Name, tree_in_order, In, In-filter}
+use Rattle.erd_meaning.proofs.Common.{In-filter_kept, IsStrictlySortedBy-filter, kind_of_name, kind_of_id, outer_place, IsTree, scope_inside, want_of_kind}
+use Rattle.erd_meaning.proofs.Common.{is_report_class, member_want, carried_want, want_of_name, entry_want, is_compared_set, Asked, asked, is_repeated}
+use Rattle.erd_meaning.proofs.Common.{asked_of_member, asked_inside, asked_from, asked_at, Want, ClassText, Member, Reference, Status, is_reference_fault}
+use Rattle.erd_meaning.proofs.Common.{is_other_selection, ReferenceFault, inl, inr, cases_Bool, is_none, ap₂, append-nil, and-false, as_str, Repeated}
+use Rattle.erd_meaning.proofs.Common.{Unresolved, WrongFamily, walk_lists, Agrees, Around, NoneOf, told_of_report, IsInOrder, Preference, IdentityFault}
+use Rattle.erd_meaning.proofs.Common.{is_in_other_contest, owner, is_owned, kept_objects, is_known, is_of_others, is_selection_family, is_elsewhere, reason_if}
+use Rattle.erd_meaning.proofs.Common.{id_reasons, reference_reasons_told, and-true, Carried}
 use Rattle.erd_check.specs.declared.want.Scope.{Scope, Scope as scope}
 use Rattle.erd_check.specs.declared.want.Want.TheVariants.{Object}
 use Rattle.erd_check.proofs.Walks.{faults_asked, faults_asked_listed, AreReasons}
 use Rattle.erd_check.proofs.Positions.{and_then-Some}
-use Rattle.erd_meaning.proofs.references.ReferenceFaultLists.{are_entry_steps, fault_of_reason, has_reference_reason, stands_elsewhere, last_steps, reason_of_fault, reference_reasons, reference_reasons_rise}
+use Rattle.erd_meaning.proofs.references.ReferenceFaultLists.{are_entry_steps, fault_of_reason, has_reference_reason, stands_elsewhere, last_steps}
+use Rattle.erd_meaning.proofs.references.ReferenceFaultLists.{reason_of_fault, reference_reasons, reference_reasons_rise}
 use Rattle.erd_check.specs.code.Walk.{asked_with}
 use Rattle.erd_meaning.proofs.references.ReferenceLookups.{known_same, owner_same, elsewhere_same}
 
@@ -73,7 +85,11 @@ some_fits name v w e h = let same : v ≡ w = cc in subst (λ x. want_fits name 
 
 named_fits : (s : Scope) (name : List ℕ) (w : Want) → want_of_name s name ≡ Some w → want_fits name w ≡ true
 named_fits scope.Nothing name w e = cc
-named_fits (scope.Members r None) name w e = elim (cases_Bool (bytes_eq name (codes "@type"))) [ inl is ↦ some_fits name (ClassText r) w (rw is at e) refl | inr is ↦ (let h : None ≡ Some w = rw is at e in cc) ]
+named_fits (scope.Members r None) name w e =
+    elim (cases_Bool (bytes_eq name (codes "@type"))) [
+      | inl is ↦ some_fits name (ClassText r) w (rw is at e) refl
+      | inr is ↦ (let h : None ≡ Some w = rw is at e in cc)
+    ]
 named_fits (scope.Members r (Some c)) name w e = at (bytes_eq name (codes "@type")) refl e
   where
     at : (b : Bool) → bytes_eq name (codes "@type") ≡ b → cond b (Some (ClassText r)) (Some (member_want c name)) ≡ Some w → want_fits name w ≡ true
@@ -100,7 +116,8 @@ member_found None d a e = cc
 member_found (Some w) None a e = cc
 member_found (Some w) (Some d) a e = let h : asked w d ≡ a = cc in ap (λ (x : Asked). Some x.want) h
 
-entry_found : (v : Option Want) (make : Want → Data → Asked) → ((w : Want) (d : Data) → (make w d).want ≡ w) → (d : Option Data) (a : Asked) → option_and_then (λ w. option_map (make w) d) v ≡ Some a → v ≡ Some a.want
+entry_found : (v : Option Want) (make : Want → Data → Asked) → ((w : Want) (d : Data) → (make w d).want ≡ w) → (d : Option Data) (a : Asked)
+    → option_and_then (λ w. option_map (make w) d) v ≡ Some a → v ≡ Some a.want
 entry_found None make keeps d a e = cc
 entry_found (Some w) make keeps None a e = cc
 entry_found (Some w) make keeps (Some d) a e = let h : make w d ≡ a = cc in ap Some (sym (keeps w d)) ∙ ap (λ (x : Asked). Some x.want) h
@@ -110,7 +127,8 @@ by_name w (object ms) n a e = (scope_inside w (object ms), member_found (want_of
 by_name w d n a e = cc
 
 by_entry : (w : Want) (d : Data) (i : ℕ) (a : Asked) → asked_inside w d (At i) ≡ Some a → entry_want w ≡ Some a.want
-by_entry w (array ds) i a e = entry_found (entry_want w) (λ v d. record { want = v; value = d; repeated = is_compared_set w && is_repeated ds i d }) (λ v d. refl) (get_item i ds) a e
+by_entry w (array ds) i a e = entry_found (entry_want w) (λ v d. record { want = v; value = d; repeated = is_compared_set w && is_repeated ds i d })
+    (λ v d. refl) (get_item i ds) a e
 by_entry w d i a e = cc
 
 abbrev some_wants : Option Want → Bool
@@ -140,12 +158,14 @@ no_list_of_lists (Member kind.Ordered required) h = cc
 no_list_of_lists w h = cc
 
 -- the last step to such a reference leads into a list
-last_step : (w : Want) (d : Data) (r : Step) (a : Asked) → asked_inside w d r ≡ Some a → wants_selection a.want ≡ true → (i : ℕ) × (r ≡ At i) × (lists_selections w ≡ true)
+last_step : (w : Want) (d : Data) (r : Step) (a : Asked) → asked_inside w d r ≡ Some a → wants_selection a.want ≡ true → (i : ℕ) × (r ≡ At i)
+    × (lists_selections w ≡ true)
 last_step w d (Name n) a e k = let named = by_name w d n a e in absurd (no_member n a.want (named_fits named.0 n a.want named.1) k)
 last_step w d (At i) a e k = (i, refl, list_of_entry w (ap some_wants (by_entry w d i a e) ∙ k))
 
 -- the step to such a list is its name
-list_step : (w : Want) (d : Data) (s : Step) (a : Asked) → asked_inside w d s ≡ Some a → lists_selections a.want ≡ true → (n : List ℕ) × (s ≡ Name n) × (bytes_eq n list_name ≡ true)
+list_step : (w : Want) (d : Data) (s : Step) (a : Asked) → asked_inside w d s ≡ Some a → lists_selections a.want ≡ true → (n : List ℕ) × (s ≡ Name n)
+    × (bytes_eq n list_name ≡ true)
 list_step w d (Name n) a e k = let named = by_name w d n a e in (n, refl, list_named n a.want (named_fits named.0 n a.want named.1) k)
 list_step w d (At i) a e k = absurd (no_list_of_lists w (ap some_lists (by_entry w d i a e) ∙ k))
 
@@ -174,7 +194,8 @@ asked_from-append a (s ∷ p) q = onward (asked_inside a.want a.value s) (λ b. 
     onward (Some b) h = h b
 
 -- the steps are the last two, or all of them
-steps_at : (t : Data) (q ss : List Step) (a : Asked) → asked_at t (q ++ ss) ≡ Some a → length ss ≤ 2 → (length ss < 2 → q ≡ []) → wants_selection a.want ≡ true → are_entry_steps ss ≡ true
+steps_at : (t : Data) (q ss : List Step) (a : Asked) → asked_at t (q ++ ss) ≡ Some a → length ss ≤ 2 → (length ss < 2 → q ≡ []) → wants_selection a.want ≡ true
+    → are_entry_steps ss ≡ true
 steps_at t q [] a e few all k =
     let here : asked_at t [] ≡ Some a = subst (λ x. asked_at t (x ++ []) ≡ Some a) (all (omega arith)) e in
     let same : asked (Object Report) t ≡ a = cc in
@@ -211,11 +232,13 @@ elsewhere_wants : (t d : Data) (w : Want) (e : Data) → is_other_selection t d 
 elsewhere_wants t d (Reference family.Selection) e h = refl
 elsewhere_wants t d w e h = cc
 
-elsewhere_at : (t : Data) (a : Asked) (o : Option Asked) → option_map_or (λ contest. is_other_selection t contest.value a.want a.value) o false ≡ true → wants_selection a.want ≡ true
+elsewhere_at : (t : Data) (a : Asked) (o : Option Asked) → option_map_or (λ contest. is_other_selection t contest.value a.want a.value) o false ≡ true
+    → wants_selection a.want ≡ true
 elsewhere_at t a None h = cc
 elsewhere_at t a (Some contest) h = elsewhere_wants t contest.value a.want a.value h
 
-reason_from : (t : Data) (p : List Step) (a : Asked) (r : Reason) → asked_at t p ≡ Some a → has_reference_fault t p a r ≡ true → has_reference_reason t p a r ≡ true
+reason_from : (t : Data) (p : List Step) (a : Asked) (r : Reason) → asked_at t p ≡ Some a → has_reference_fault t p a r ≡ true
+    → has_reference_reason t p a r ≡ true
 reason_from t p a SelectionOfOtherContest e h =
     and_from (are_entry_steps (last_steps p)) (stands_elsewhere t p a) (selection_place t p a e (elsewhere_at t a (asked_at t (outer_place p)) h)) h
 reason_from t p a r e h = h
@@ -265,25 +288,28 @@ first_told r false rs = refl
 
 all_told : (test : Reason → Bool) → filter test reference_reasons ≡ if_told (test Repeated) (test Unresolved) (test WrongFamily) (test SelectionOfOtherContest)
 all_told test =
-    first_told Repeated (test Repeated) _
-    ∙ ap (λ rs. reason_if (test Repeated) Repeated ++ rs) (first_told Unresolved (test Unresolved) _
+    first_told Repeated (test Repeated) _ ∙ ap (λ rs. reason_if (test Repeated) Repeated ++ rs) (first_told Unresolved (test Unresolved) _
     ∙ ap (λ rs. reason_if (test Unresolved) Unresolved ++ rs) (first_told WrongFamily (test WrongFamily) _
     ∙ ap (λ rs. reason_if (test WrongFamily) WrongFamily ++ rs) (first_told SelectionOfOtherContest (test SelectionOfOtherContest) [] ∙ append-nil _)))
 
-of_others_same : (π : Preference) (t : Data) (f : Family) (id : List ℕ) → NoneOf (IdentityFault π t) → is_of_others (kept_objects π t) f id ≡ (is_none (owner t f id) && is_owned t id)
+of_others_same : (π : Preference) (t : Data) (f : Family) (id : List ℕ) → NoneOf (IdentityFault π t) → is_of_others (kept_objects π t) f id
+    ≡ (is_none (owner t f id) && is_owned t id)
 of_others_same π t f id none = ap₂ (λ (a : Option Data) (b : Bool). is_none a && b) (owner_same π t f id none) (known_same π t id)
 
 by_text : (π : Preference) (t u : Data) (f : Family) (repeated : Bool) (o : Option (List ℕ)) → NoneOf (IdentityFault π t)
     → reason_if repeated Repeated ++ option_map_or (id_reasons (kept_objects π t) u f) o []
     ≡ if_told repeated (option_map_or (λ id. not (is_owned t id)) o false) (option_map_or (λ id. is_none (owner t f id) && is_owned t id) o false)
     (is_selection_family f && option_map_or (is_in_other_contest t u) o false)
-by_text π t u f repeated None none = sym (if_told-same repeated false false (is_selection_family f && false) repeated false false false refl refl refl (and-false (is_selection_family f)))
+by_text π t u f repeated None none =
+    sym (if_told-same repeated false false (is_selection_family f && false) repeated false false false refl refl refl (and-false (is_selection_family f)))
 by_text π t u f repeated (Some id) none =
-    if_told-same repeated (not (is_known (kept_objects π t) id)) (is_of_others (kept_objects π t) f id) (is_selection_family f && is_elsewhere (kept_objects π t) u id)
+    if_told-same repeated (not (is_known (kept_objects π t) id)) (is_of_others (kept_objects π t) f id)
+    (is_selection_family f && is_elsewhere (kept_objects π t) u id)
     repeated (not (is_owned t id)) (is_none (owner t f id) && is_owned t id) (is_selection_family f && is_in_other_contest t u id)
     refl (ap not (known_same π t id)) (of_others_same π t f id none) (ap (λ b. is_selection_family f && b) (elsewhere_same π t u id none))
 
-other_same : (t u : Data) (f : Family) (d : Data) → is_other_selection t u (Reference f) d ≡ (is_selection_family f && option_map_or (is_in_other_contest t u) (as_str d) false)
+other_same : (t u : Data) (f : Family) (d : Data) → is_other_selection t u (Reference f) d
+    ≡ (is_selection_family f && option_map_or (is_in_other_contest t u) (as_str d) false)
 other_same t u family.Selection d = refl
 other_same t u f d = refl
 
@@ -299,25 +325,33 @@ other_there t u p near a around =
 none_here : (t u : Data) (p : List Step) (near : Data) (a : Asked) → Around t p u near → is_other_selection t u a.want a.value ≡ false
     → if_told (a.repeated && false) false false (told_other t p a) ≡ []
 none_here t u p near a around e =
-    if_told-same (a.repeated && false) false false (told_other t p a) false false false false (and-false a.repeated) refl refl (other_there t u p near a around ∙ e)
+    if_told-same (a.repeated && false) false false (told_other t p a) false false false false (and-false a.repeated) refl refl
+    (other_there t u p near a around ∙ e)
 
-tests_here : (π : Preference) (t u : Data) (p : List Step) (near : Data) (w : Want) (repeated : Bool) (d : Data) → NoneOf (IdentityFault π t) → Around t p u near
+tests_here : (π : Preference) (t u : Data) (p : List Step) (near : Data) (w : Want) (repeated : Bool) (d : Data)
+    → NoneOf (IdentityFault π t) → Around t p u near
     → let a : Asked = asked_with w repeated d in
     if_told (has_reference_fault t p a Repeated) (has_reference_fault t p a Unresolved) (has_reference_fault t p a WrongFamily) (told_other t p a)
     ≡ reference_reasons_told (kept_objects π t) u w repeated d
 tests_here π t u p near (Reference f) repeated d none around =
     let a : Asked = asked_with (Reference f) repeated d in
-    if_told-same (repeated && true) (option_map_or (λ id. not (is_owned t id)) (as_str d) false) (option_map_or (λ id. is_none (owner t f id) && is_owned t id) (as_str d) false) (told_other t p a)
+    if_told-same (repeated && true) (option_map_or (λ id. not (is_owned t id)) (as_str d) false)
+    (option_map_or (λ id. is_none (owner t f id) && is_owned t id) (as_str d) false) (told_other t p a)
     repeated (option_map_or (λ id. not (is_owned t id)) (as_str d) false) (option_map_or (λ id. is_none (owner t f id) && is_owned t id) (as_str d) false)
     (is_selection_family f && option_map_or (is_in_other_contest t u) (as_str d) false)
-    (and-true repeated) refl refl (other_there t u p near a around ∙ other_same t u f d)
-    ∙ sym (by_text π t u f repeated (as_str d) none)
+    (and-true repeated) refl refl (other_there t u p near a around ∙ other_same t u f d) ∙ sym (by_text π t u f repeated (as_str d) none)
 tests_here π t u p near w repeated d none around = none_here t u p near (asked_with w repeated d) around refl
 
 -- ---- the walk
 
 told_there : (π : Preference) (t : Data) → NoneOf (IdentityFault π t) → Agrees t (reference_reasons_told (kept_objects π t)) (reasons_there t)
-told_there π t none = record { same = λ p outer owner w repeated d around. sym (all_told (has_reference_fault t p (asked_with w repeated d)) ∙ tests_here π t outer p owner w repeated d none around) }
+told_there π t none =
+    record {
+      same = λ p outer owner w repeated d around. sym (all_told (has_reference_fault t p (asked_with w repeated d))
+          ∙ tests_here π t outer p owner w repeated d none around);
+    }
 
-pub references_all : (π : Preference) (t : Data) → NoneOf (IdentityFault π t) → IsInOrder (Object Report) t → ListsAll (ReferenceFault t) (told_of_report (reference_reasons_told (kept_objects π t)) t)
-references_all π t none order = walk_lists t (reference_reasons_told (kept_objects π t)) (reasons_there t) (ReferenceFault t) (told_there π t none) order (reasons_all t)
+pub references_all : (π : Preference) (t : Data) → NoneOf (IdentityFault π t) → IsInOrder (Object Report) t
+    → ListsAll (ReferenceFault t) (told_of_report (reference_reasons_told (kept_objects π t)) t)
+references_all π t none order = walk_lists t (reference_reasons_told (kept_objects π t)) (reasons_there t) (ReferenceFault t)
+    (told_there π t none) order (reasons_all t)

@@ -1,5 +1,12 @@
 -- The reasons of a reference, by one look-up of its text; where no reference stands, none is told.
-use Rattle.erd_meaning.proofs.Common.{◌≡◌, ℕ, Bool, true, false, ◌&&◌, ◌||◌, List, [], ◌∷◌, ◌++◌, Some, None, codes, Option, option_and_then, bytes_eq, sym, refl, ap, ◌∙◌, ap₂, list_all, option_map_or, Data, object, Members, get, as_str, role_of_class, class_in_role, rows_of_class, is_reference_name, kind_of_identity, kind_of_member, is_required, Class, class, Role, role, MemberKind, kind, kind_of_class, class_of_object, scope_inside, want_of_kind, is_report_class, member_want, carried_want, want_of_name, entry_want, Want, Carried, ClassText, Member, Status, leads_to_references, cond_both, not, is_some, is_none, ◌==◌, option_map, option_to_list, and-false, string, family_number, Family, family, Reason, SelectionOfOtherContest, Unresolved, WrongFamily, Reference, number_of_id, is_in_contest, number_among, object_among, Kept, is_known, is_of_others, is_selection_family, is_selection_elsewhere, is_elsewhere, reason_if, id_reasons, reference_reasons_told, arith}
+use Rattle.erd_meaning.proofs.Common.{◌≡◌, ℕ, Bool, true, false, ◌&&◌, ◌||◌, List, [], ◌∷◌, ◌++◌, Some, None, codes, Option, option_and_then, bytes_eq, sym}
+use Rattle.erd_meaning.proofs.Common.{refl, ap, ◌∙◌, ap₂, list_all, option_map_or, Data, object, Members, get, as_str, role_of_class, class_in_role}
+use Rattle.erd_meaning.proofs.Common.{rows_of_class, is_reference_name, kind_of_identity, kind_of_member, is_required, Class, class, Role, role, MemberKind}
+use Rattle.erd_meaning.proofs.Common.{kind, kind_of_class, class_of_object, scope_inside, want_of_kind, is_report_class, member_want, carried_want}
+use Rattle.erd_meaning.proofs.Common.{want_of_name, entry_want, Want, Carried, ClassText, Member, Status, leads_to_references, cond_both, not, is_some, is_none}
+use Rattle.erd_meaning.proofs.Common.{◌==◌, option_map, option_to_list, and-false, string, family_number, Family, family, Reason, SelectionOfOtherContest}
+use Rattle.erd_meaning.proofs.Common.{Unresolved, WrongFamily, Reference, number_of_id, is_in_contest, number_among, object_among, Kept, is_known, is_of_others}
+use Rattle.erd_meaning.proofs.Common.{is_selection_family, is_selection_elsewhere, is_elsewhere, reason_if, id_reasons, reference_reasons_told, arith}
 use Rattle.erd_tables.proofs.Roles.{class_in_role_named}
 use Rattle.erd_check.proofs.Silence.{silent_member}
 use Rattle.erd_check.specs.Visits.{IsSilentMember}
@@ -46,9 +53,11 @@ plain_identity : (c : Class) → is_plain_kind (kind_of_identity c) ≡ true
 plain_identity class.ElectionReport = refl
 plain_identity c = refl
 
-plain_member : (c : Class) (name : List ℕ) → is_plain_role (role_of_class c) ≡ true → bytes_eq name (codes "@type") ≡ false → leads_to_references (member_want c name) ≡ false
+plain_member : (c : Class) (name : List ℕ) → is_plain_role (role_of_class c) ≡ true → bytes_eq name (codes "@type") ≡ false
+    → leads_to_references (member_want c name) ≡ false
 plain_member c name e other =
-    cond_both (is_report_class c && bytes_eq name (codes "Status")) Status (want_of_kind (kind_of_member c name) (is_required c name)) (λ w. leads_to_references w ≡ false) (λ is. refl)
+    cond_both (is_report_class c && bytes_eq name (codes "Status")) Status (want_of_kind (kind_of_member c name) (is_required c name))
+    (λ w. leads_to_references w ≡ false) (λ is. refl)
     (λ is. plain_kind (kind_of_member c name) (is_required c name) (kind_of_class is_plain_kind c name other (plain_rows c e) (plain_identity c) refl refl))
 
 class_role : (r : Role) (o : Option (List ℕ)) (c : Class) → option_and_then (class_in_role r) o ≡ Some c → role_of_class c ≡ r
@@ -74,20 +83,23 @@ plain_named r o plain classes name v = at (bytes_eq name (codes "@type")) refl o
         let k : member_want c name ≡ v = cc in
         ap leads_to_references (sym k) ∙ plain_member c name (ap is_plain_role (own c refl) ∙ plain) is
 
-plain_object : (r : Role) (ms : Members) → is_plain_role r ≡ true → (name : List ℕ) (v : Want) → want_of_name (scope.Members r (class_of_object r (object ms))) name ≡ Some v → leads_to_references v ≡ false
+plain_object : (r : Role) (ms : Members) → is_plain_role r ≡ true → (name : List ℕ) (v : Want) → want_of_name (scope.Members r (class_of_object r (object ms)))
+    name ≡ Some v → leads_to_references v ≡ false
 plain_object r ms plain = plain_named r (class_of_object r (object ms)) plain (class_role r (option_and_then as_str (get (codes "@type") (object ms))))
 
 plain_carried : (name : List ℕ) (v : Want) → want_of_name scope.Carried name ≡ Some v → leads_to_references v ≡ false
 plain_carried name v e =
     let h : carried_want name ≡ v = cc in
     ap leads_to_references (sym h)
-    ∙ cond_both (bytes_eq name (codes "@id") || is_reference_name name) (Member kind.StrangeIdentity false) Carried (λ w. leads_to_references w ≡ false) (λ is. refl) (λ is. refl)
+    ∙ cond_both (bytes_eq name (codes "@id") || is_reference_name name) (Member kind.StrangeIdentity false) Carried (λ w. leads_to_references w ≡ false)
+    (λ is. refl) (λ is. refl)
 
 nothing_named : (name : List ℕ) (v : Want) → want_of_name scope.Nothing name ≡ Some v → leads_to_references v ≡ false
 nothing_named name v e = cc
 
 -- what is asked of the members of a value that does not lead to references
-named_inside : (w : Want) (ms : Members) → leads_to_references w ≡ false → (name : List ℕ) (v : Want) → want_of_name (scope_inside w (object ms)) name ≡ Some v → leads_to_references v ≡ false
+named_inside : (w : Want) (ms : Members) → leads_to_references w ≡ false → (name : List ℕ) (v : Want) → want_of_name (scope_inside w (object ms)) name ≡ Some v
+    → leads_to_references v ≡ false
 named_inside (Object role.Identifier) ms h = plain_object role.Identifier ms refl
 named_inside (Object role.Label) ms h = plain_object role.Label ms refl
 named_inside (Object role.Language) ms h = plain_object role.Language ms refl
@@ -105,12 +117,14 @@ entries_inside w v h e = cc
 
 -- ---- reasons of references are told where a reference is asked for, and nowhere else
 
-no_reason : (ks : List Kept) (outer : Data) (w : Want) (repeated : Bool) (d : Data) → leads_to_references w ≡ false → reference_reasons_told ks outer w repeated d ≡ []
+no_reason : (ks : List Kept) (outer : Data) (w : Want) (repeated : Bool) (d : Data) → leads_to_references w ≡ false
+    → reference_reasons_told ks outer w repeated d ≡ []
 no_reason ks outer (Reference f) repeated d h = cc
 no_reason ks outer w repeated d h = refl
 
 pub no_reference : (ks : List Kept) (owner : Data) (w : Want) (d : Data) → leads_to_references w ≡ false → IsSilentMember (reference_reasons_told ks) owner w d
-no_reference ks = silent_member (reference_reasons_told ks) (λ w. leads_to_references w ≡ false) (record { nothing = no_reason ks; of_entries = entries_inside; of_members = named_inside })
+no_reference ks = silent_member (reference_reasons_told ks) (λ w. leads_to_references w ≡ false)
+    (record { nothing = no_reason ks; of_entries = entries_inside; of_members = named_inside })
 
 -- ---- the reasons of a reference, by one look-up of its text
 
@@ -118,7 +132,8 @@ no_reference ks = silent_member (reference_reasons_told ks) (λ w. leads_to_refe
 abbrev told : Bool → Bool → Bool → List Reason
 told known others elsewhere = reason_if (not known) Unresolved ++ (reason_if others WrongFamily ++ reason_if elsewhere SelectionOfOtherContest)
 
-told-same : (ks : List Kept) (outer : Data) (f : Family) (id : List ℕ) (known others elsewhere : Bool) → is_known ks id ≡ known → is_of_others ks f id ≡ others → (is_selection_family f && is_elsewhere ks outer id) ≡ elsewhere
+told-same : (ks : List Kept) (outer : Data) (f : Family) (id : List ℕ) (known others elsewhere : Bool) → is_known ks id ≡ known → is_of_others ks f id ≡ others
+    → (is_selection_family f && is_elsewhere ks outer id) ≡ elsewhere
     → id_reasons ks outer f id ≡ told known others elsewhere
 told-same ks outer f id known others elsewhere a b c =
     ap₂ ◌++◌ (ap (λ k. reason_if (not k) Unresolved) a) (ap₂ (λ o e. reason_if o WrongFamily ++ reason_if e SelectionOfOtherContest) b c)
@@ -126,22 +141,26 @@ told-same ks outer f id known others elsewhere a b c =
 known_by : (ks : List Kept) (id : List ℕ) (o : Option (Family × ℕ)) → number_of_id ks id ≡ o → is_known ks id ≡ is_some o
 known_by ks id o e = sym (id_known ks id) ∙ ap is_some e
 
-others_by : (ks : List Kept) (f : Family) (id : List ℕ) (o : Option Kept) (known : Bool) → object_among ks f id ≡ o → is_known ks id ≡ known → is_of_others ks f id ≡ (is_none o && known)
+others_by : (ks : List Kept) (f : Family) (id : List ℕ) (o : Option Kept) (known : Bool) → object_among ks f id ≡ o → is_known ks id ≡ known
+    → is_of_others ks f id ≡ (is_none o && known)
 others_by ks f id o known e k = ap₂ (λ (q : Option Kept) (b : Bool). is_none (option_map (λ k. k.value) q) && b) e k ∙ at o
   where
     at : (o : Option Kept) → (is_none (option_map (λ (k : Kept). k.value) o) && known) ≡ (is_none o && known)
     at o = grind arith
 
-elsewhere_by : (ks : List Kept) (outer : Data) (id : List ℕ) (o : Option ℕ) → number_among ks family.Selection id ≡ o → is_elsewhere ks outer id ≡ option_map_or (is_selection_elsewhere ks outer) o false
+elsewhere_by : (ks : List Kept) (outer : Data) (id : List ℕ) (o : Option ℕ) → number_among ks family.Selection id ≡ o → is_elsewhere ks outer id
+    ≡ option_map_or (is_selection_elsewhere ks outer) o false
 elsewhere_by ks outer id o e = ap (λ (q : Option ℕ). option_map_or (is_selection_elsewhere ks outer) q false) e
 
 among_none : (ks : List Kept) (f : Family) (id : List ℕ) → number_of_id ks id ≡ None → number_among ks f id ≡ None
 among_none ks f id e = rw e
 
-among_other : (ks : List Kept) (f g : Family) (id : List ℕ) (i : ℕ) → number_of_id ks id ≡ Some (g, i) → (family_number g == family_number f) ≡ false → number_among ks f id ≡ None
+among_other : (ks : List Kept) (f g : Family) (id : List ℕ) (i : ℕ) → number_of_id ks id ≡ Some (g, i) → (family_number g == family_number f) ≡ false
+    → number_among ks f id ≡ None
 among_other ks f g id i e other = rw (e, other)
 
-pub among_family : (ks : List Kept) (f g : Family) (id : List ℕ) (i : ℕ) → number_of_id ks id ≡ Some (g, i) → (family_number g == family_number f) ≡ true → number_among ks f id ≡ Some i
+pub among_family : (ks : List Kept) (f g : Family) (id : List ℕ) (i : ℕ) → number_of_id ks id ≡ Some (g, i) → (family_number g == family_number f) ≡ true
+    → number_among ks f id ≡ Some i
 among_family ks f g id i e same = rw (e, same)
 
 -- no object has the text
@@ -151,28 +170,34 @@ reasons_of_unknown ks outer f id e =
     told-same ks outer f id false false false known (others_by ks f id None false (with_id_none ks f id e) known)
     (ap (λ b. is_selection_family f && b) (elsewhere_by ks outer id None (among_none ks family.Selection id e)) ∙ and-false (is_selection_family f))
 
-elsewhere_of_other : (ks : List Kept) (outer : Data) (f g : Family) (id : List ℕ) (i : ℕ) → number_of_id ks id ≡ Some (g, i) → (family_number g == family_number f) ≡ false → (is_selection_family f && is_elsewhere ks outer id) ≡ false
+elsewhere_of_other : (ks : List Kept) (outer : Data) (f g : Family) (id : List ℕ) (i : ℕ) → number_of_id ks id ≡ Some (g, i)
+    → (family_number g == family_number f) ≡ false → (is_selection_family f && is_elsewhere ks outer id) ≡ false
 elsewhere_of_other ks outer family.Selection g id i e other = elsewhere_by ks outer id None (among_other ks family.Selection g id i e other)
 elsewhere_of_other ks outer f g id i e other = refl
 
 -- an object of another family has it
-pub reasons_of_other : (ks : List Kept) (outer : Data) (f g : Family) (id : List ℕ) (i : ℕ) → number_of_id ks id ≡ Some (g, i) → (family_number g == family_number f) ≡ false → id_reasons ks outer f id ≡ WrongFamily ∷ []
+pub reasons_of_other : (ks : List Kept) (outer : Data) (f g : Family) (id : List ℕ) (i : ℕ) → number_of_id ks id ≡ Some (g, i)
+    → (family_number g == family_number f) ≡ false → id_reasons ks outer f id ≡ WrongFamily ∷ []
 reasons_of_other ks outer f g id i e other =
     let known = known_by ks id (Some (g, i)) e in
-    told-same ks outer f id true true false known (others_by ks f id None true (with_id_of_other ks f g id i e other) known) (elsewhere_of_other ks outer f g id i e other)
+    told-same ks outer f id true true false known (others_by ks f id None true (with_id_of_other ks f g id i e other) known)
+    (elsewhere_of_other ks outer f g id i e other)
 
-elsewhere_of_family : (ks : List Kept) (outer : Data) (f g : Family) (id : List ℕ) (i : ℕ) → number_of_id ks id ≡ Some (g, i) → (family_number g == family_number f) ≡ true
+elsewhere_of_family : (ks : List Kept) (outer : Data) (f g : Family) (id : List ℕ) (i : ℕ) → number_of_id ks id ≡ Some (g, i)
+    → (family_number g == family_number f) ≡ true
     → (is_selection_family f && is_elsewhere ks outer id) ≡ (is_selection_family f && is_selection_elsewhere ks outer i)
 elsewhere_of_family ks outer family.Selection g id i e same = elsewhere_by ks outer id (Some i) (among_family ks family.Selection g id i e same)
 elsewhere_of_family ks outer f g id i e same = refl
 
 -- an object of the family has it
-pub reasons_of_family : (ks : List Kept) (outer : Data) (f g : Family) (id : List ℕ) (i : ℕ) → number_of_id ks id ≡ Some (g, i) → (family_number g == family_number f) ≡ true
+pub reasons_of_family : (ks : List Kept) (outer : Data) (f g : Family) (id : List ℕ) (i : ℕ) → number_of_id ks id ≡ Some (g, i)
+    → (family_number g == family_number f) ≡ true
     → id_reasons ks outer f id ≡ reason_if (is_selection_family f && is_selection_elsewhere ks outer i) SelectionOfOtherContest
 reasons_of_family ks outer f g id i e same =
     let known = known_by ks id (Some (g, i)) e in
     let one = with_id_some ks f g id i e same in
-    told-same ks outer f id true false (is_selection_family f && is_selection_elsewhere ks outer i) known (others_by ks f id (Some one.0) true one.1 known) (elsewhere_of_family ks outer f g id i e same)
+    told-same ks outer f id true false (is_selection_family f && is_selection_elsewhere ks outer i) known (others_by ks f id (Some one.0) true one.1 known)
+    (elsewhere_of_family ks outer f g id i e same)
 
 pub told_if : (b : Bool) (r : Reason) → option_to_list (then_some b r) ≡ reason_if b r
 told_if b r = grind arith
@@ -183,13 +208,15 @@ text_read (string t) s e = let same : t ≡ s = cc in ap string same
 text_read _ s e = cc
 
 -- an object of the family has the text, and no selection of another contest is named
-pub clear_of_family : (ks : List Kept) (outer : Data) (f g : Family) (id : List ℕ) (i : ℕ) → number_of_id ks id ≡ Some (g, i) → (family_number g == family_number f) ≡ true
-    → (is_selection_family f && is_selection_elsewhere ks outer i) ≡ false → id_reasons ks outer f id ≡ []
+pub clear_of_family : (ks : List Kept) (outer : Data) (f g : Family) (id : List ℕ) (i : ℕ) → number_of_id ks id ≡ Some (g, i)
+    → (family_number g == family_number f) ≡ true → (is_selection_family f && is_selection_elsewhere ks outer i) ≡ false → id_reasons ks outer f id ≡ []
 clear_of_family ks outer f g id i found same inside = reasons_of_family ks outer f g id i found same ∙ ap (λ b. reason_if b SelectionOfOtherContest) inside
 
 -- ---- a selection is not elsewhere if it is in the contest that an object names
 
 pub in_own_contest : (ks : List Kept) (contest selection : ℕ) (id : List ℕ) → number_of_id ks id ≡ Some (family.Contest, contest)
-    → is_in_contest ks contest selection ≡ true → option_map_or {T = ℕ} (λ c. not (is_in_contest ks c selection)) (number_among ks family.Contest id) false ≡ false
+    → is_in_contest ks contest selection ≡ true → option_map_or {T = ℕ} (λ c. not (is_in_contest ks c selection)) (number_among ks family.Contest id) false
+    ≡ false
 in_own_contest ks contest selection id named inside =
-    ap (λ (o : Option ℕ). option_map_or {T = ℕ} (λ c. not (is_in_contest ks c selection)) o false) (among_family ks family.Contest family.Contest id contest named refl) ∙ ap not inside
+    ap (λ (o : Option ℕ). option_map_or {T = ℕ} (λ c. not (is_in_contest ks c selection)) o false)
+    (among_family ks family.Contest family.Contest id contest named refl) ∙ ap not inside

@@ -1,6 +1,9 @@
 -- What the indexes hash of what the program meets in a report is what the definition says that they hash of the report.
-use Rattle.erd_meaning.proofs.Common.{◌≡◌, Bool, List, [], ◌∷◌, ◌++◌, map, codes, flat_map, refl, sym, ap, ◌∙◌, ap₂, map-append, map-map, Data, Family, Preference, Placed, report_of, elections, placed_entries, selections_of_contest, has_several, Located, located, contest_located, inside_election, election_located, shared_located, all_located, all_met, family}
-use Rattle.erd_meaning.specs.SaltWrites.{Hashed, all_hashed, hashed_election, hashed_in_contest, hashed_in_election, hashed_object, hashed_objects, hashed_outside}
+use Rattle.erd_meaning.proofs.Common.{◌≡◌, Bool, List, [], ◌∷◌, ◌++◌, map, codes, flat_map, refl, sym, ap, ◌∙◌, ap₂, map-append, map-map, Data, Family}
+use Rattle.erd_meaning.proofs.Common.{Preference, Placed, report_of, elections, placed_entries, selections_of_contest, has_several, Located, located}
+use Rattle.erd_meaning.proofs.Common.{contest_located, inside_election, election_located, shared_located, all_located, all_met, family}
+use Rattle.erd_meaning.specs.SaltWrites.{Hashed, all_hashed, hashed_election, hashed_in_contest, hashed_in_election, hashed_object, hashed_objects}
+use Rattle.erd_meaning.specs.SaltWrites.{hashed_outside}
 use Rattle.erd_meaning.specs.code.HashedMet.{hashed}
 
 abbrev hashed_at : Located → Hashed
@@ -39,4 +42,5 @@ outside_at π r =
 pub hashed_report : (π : Preference) (t : Data) → map hashed (all_met π t) ≡ all_hashed π t
 hashed_report π t =
     map-map hashed (λ (x : Located). x.met) (all_located π t)
-    ∙ both _ _ _ _ (inside_each (election_located π (has_several t)) (hashed_in_election π) (election_at π (has_several t)) (elections t)) (outside_at π (report_of t))
+    ∙ both _ _ _ _ (inside_each (election_located π (has_several t)) (hashed_in_election π) (election_at π (has_several t)) (elections t))
+    (outside_at π (report_of t))

@@ -1,5 +1,6 @@
 -- Two reports whose salts are computed from the same bytes give each index the same keys.
-use Rattle.std.proofs.Common.{◌≡◌, ◌+◌, is_lt, ℕ, Bool, true, false, cond, List, [], ◌∷◌, ◌++◌, Option, Some, None, option_and_then, option_map, unwrap_or, if◌then◌else◌, find, filter, filter_map, length, map, refl, sym, ap, ◌∙◌}
+use Rattle.std.proofs.Common.{◌≡◌, ◌+◌, is_lt, ℕ, Bool, true, false, cond, List, [], ◌∷◌, ◌++◌, Option, Some, None, option_and_then, option_map, unwrap_or}
+use Rattle.std.proofs.Common.{if◌then◌else◌, find, filter, filter_map, length, map, refl, sym, ap, ◌∙◌}
 use Rattle.std.proofs.lemmas.List.{length-map}
 use Rattle.std.specs.Option.{option_cmp}
 use Rattle.serde_json.specs.Data.{Data, null}
@@ -51,13 +52,17 @@ find_bare id (k ∷ ks) =
     ap (λ o. cond (keeps_id id k) (Some (bare k)) o) (find_bare id ks) ∙ chosen (option_map bare) (keeps_id id k) (Some k) (find (keeps_id id) ks)
 
 key_bare : (ks : List Kept) (f : Family) (id : List ℕ) → key_among (map bare ks) f id ≡ key_among ks f id
-key_bare ks f id = ap (λ (o : Option Kept). option_and_then (λ k. k.key) (option_and_then (λ k. if is_of_family f k then Some k else None) o)) (find_bare id ks) ∙ at (find (keeps_id id) ks)
+key_bare ks f id = ap (λ (o : Option Kept). option_and_then (λ k. k.key) (option_and_then (λ k. if is_of_family f k then Some k else None) o)) (find_bare id ks)
+    ∙ at (find (keeps_id id) ks)
   where
-    one : (k : Kept) (b : Bool) → option_and_then (λ (k : Kept). k.key) (cond b (Some (bare k)) None) ≡ option_and_then (λ (k : Kept). k.key) (cond b (Some k) None)
+    one : (k : Kept) (b : Bool) → option_and_then (λ (k : Kept). k.key) (cond b (Some (bare k)) None)
+        ≡ option_and_then (λ (k : Kept). k.key) (cond b (Some k) None)
     one k true = refl
     one k false = refl
 
-    at : (o : Option Kept) → option_and_then (λ (k : Kept). k.key) (option_and_then (λ (k : Kept). if is_of_family f k then Some k else None) (option_map bare o)) ≡ option_and_then (λ (k : Kept). k.key) (option_and_then (λ (k : Kept). if is_of_family f k then Some k else None) o)
+    at : (o : Option Kept) → option_and_then (λ (k : Kept). k.key)
+        (option_and_then (λ (k : Kept). if is_of_family f k then Some k else None) (option_map bare o)) ≡ option_and_then (λ (k : Kept). k.key)
+        (option_and_then (λ (k : Kept). if is_of_family f k then Some k else None) o)
     at None = refl
     at (Some k) = one k (is_of_family f k)
 
@@ -69,8 +74,7 @@ filter_bare test same (k ∷ ks) =
 rank_bare : (ks : List Kept) (f : Family) (key : Option Key) → rank_among (map bare ks) f key ≡ rank_among ks f key
 rank_bare ks f key =
     let less = λ (k : Kept). is_lt (option_cmp key_cmp k.key key) in
-    ap (λ ls. length (filter less ls)) (filter_bare (is_of_family f) (λ k. refl) ks)
-    ∙ ap length (filter_bare less (λ k. refl) (those_of f ks))
+    ap (λ ls. length (filter less ls)) (filter_bare (is_of_family f) (λ k. refl) ks) ∙ ap length (filter_bare less (λ k. refl) (those_of f ks))
     ∙ length-map (filter less (those_of f ks)) bare
 
 contests_bare : (n : ℕ) (ks : List Kept) → contests_before n (map bare ks) ≡ contests_before n ks
@@ -82,12 +86,14 @@ contests_bare n (k ∷ ks) = ap (λ ns. contests_noted k.family n ++ ns) (contes
 abbrev of_family : Family → Kept → Kept
 of_family f k = record { family = f; value = k.value; id = k.id; key = k.key; election = k.election }
 
-values_bare : {X : Type 0} (read : Data → X) (ks : List Kept) → map (λ k. read k.value) (those_of family.Selection (map bare ks)) ≡ map (λ k. read k.value) (those_of family.Selection ks)
+values_bare : {X : Type 0} (read : Data → X) (ks : List Kept) → map (λ k. read k.value) (those_of family.Selection (map bare ks)) ≡ map (λ k. read k.value)
+    (those_of family.Selection ks)
 values_bare read [] = refl
 values_bare read (k ∷ ks) = at k.family (values_bare read ks)
   where
     at : (f : Family) → map (λ l. read l.value) (those_of family.Selection (map bare ks)) ≡ map (λ l. read l.value) (those_of family.Selection ks)
-        → map (λ l. read l.value) (those_of family.Selection (map bare (of_family f k ∷ ks))) ≡ map (λ l. read l.value) (those_of family.Selection (of_family f k ∷ ks))
+        → map (λ l. read l.value) (those_of family.Selection (map bare (of_family f k ∷ ks))) ≡ map (λ l. read l.value)
+        (those_of family.Selection (of_family f k ∷ ks))
     at family.Selection rest = ap (λ xs. read k.value ∷ xs) rest
     at f rest = rest
 
@@ -96,7 +102,8 @@ names_bare π ks =
     let keys : key_among (map bare ks) ≡ key_among ks = λ i f id. key_bare ks f id i in
     let ranks : rank_among (map bare ks) ≡ rank_among ks = λ i f key. rank_bare ks f key i in
     values_bare (ranked_name_among π (map bare ks)) ks
-    ∙ (λ i. map (λ k. option_map (λ n. record { name = n; ranks = map (λ key. ranks i (family_chosen n.class) (Some key)) n.keys }) (name_by π (keys i) k.value)) (those_of family.Selection ks))
+    ∙ (λ i. map (λ k. option_map (λ n. record { name = n; ranks = map (λ key. ranks i (family_chosen n.class) (Some key)) n.keys })
+    (name_by π (keys i) k.value)) (those_of family.Selection ks))
 
 -- ---- elections
 
@@ -123,7 +130,8 @@ keeps_each_index π t u p q same =
     record {
       ids = sym (all_bare (λ k. k.id) (λ k. refl) ks) ∙ ap (map (λ k. k.id)) objects ∙ all_bare (λ k. k.id) (λ k. refl) ls;
       keys = sym (all_bare family_and_key (λ k. refl) ks) ∙ ap (map family_and_key) objects ∙ all_bare family_and_key (λ k. refl) ls;
-      elections = sym (election_keys_met π t) ∙ sym (elections_hashed (all_met π t)) ∙ ap (filter_map (λ h. election_of h.family h.key)) all ∙ elections_hashed (all_met π u) ∙ election_keys_met π u;
+      elections = sym (election_keys_met π t) ∙ sym (elections_hashed (all_met π t)) ∙ ap (filter_map (λ h. election_of h.family h.key)) all
+          ∙ elections_hashed (all_met π u) ∙ election_keys_met π u;
       names = sym (names_bare π ks) ∙ ap (selection_names π) objects ∙ names_bare π ls;
       contests = sym (contests_bare 0 ks) ∙ ap (contests_before 0) objects ∙ contests_bare 0 ls;
     }

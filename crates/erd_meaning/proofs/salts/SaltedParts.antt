@@ -1,5 +1,6 @@
 -- What is written of each part of a report tells where it ends, so the bytes of all tell all parts.
-use Rattle.std.proofs.Common.{◌≤◌, ◌+◌, ◌*◌, Bool, cond, is_some, true≢false, ◌≡◌, ◌<◌, ◌^◌, ◌-◌, ℕ, suc, pos, negsuc, List, [], ◌∷◌, ◌++◌, true, false, Option, Some, None, IfSome, flat_map, refl, sym, ap, ◌∙◌, arith}
+use Rattle.std.proofs.Common.{◌≤◌, ◌+◌, ◌*◌, Bool, cond, is_some, true≢false, ◌≡◌, ◌<◌, ◌^◌, ◌-◌, ℕ, suc, pos, negsuc, List, [], ◌∷◌, ◌++◌, true, false, Option}
+use Rattle.std.proofs.Common.{Some, None, IfSome, flat_map, refl, sym, ap, ◌∙◌, arith}
 use Rattle.std.specs.Hash.{HashWrites, i64, le_bytes, u64, usize}
 use Rattle.std.specs.List.{AllByRecursion}
 use Rattle.serde_json.specs.Data.{unsigned, negative, float, Data, null, boolean, number, string, array, object, no_items, item, no_members, member}
@@ -11,7 +12,8 @@ use Rattle.erd_tables.specs.declared.class.Family.TheVariants as family
 use Rattle.std.proofs.lemmas.Bool.Decides.{Decides-eqb}
 use Rattle.std.proofs.lemmas.Grind.{flat_map-append}
 use Rattle.erd_meaning.proofs.identity.ObjectFamilies.{family_exact}
-use Rattle.erd_meaning.specs.SaltWrites.{Hashed, value_writes, items_writes, members_writes, option_writes, triple_writes, hashed_writes, hashed_number, parts_number, FitsText, FitsValue, FitsItems, FitsMembers, FitsKey, FitsHashed}
+use Rattle.erd_meaning.specs.SaltWrites.{Hashed, value_writes, items_writes, members_writes, option_writes, triple_writes, hashed_writes, hashed_number}
+use Rattle.erd_meaning.specs.SaltWrites.{parts_number, FitsText, FitsValue, FitsItems, FitsMembers, FitsKey, FitsHashed}
 
 -- Two values that are written before something, and written alike, are equal.
 abbrev Ends : {T : Type 0} → (T → Type 0) → (T → HashWrites) → Type 0
@@ -43,7 +45,8 @@ both_end FitsS FitsT F G first second a b x y us vs p q r s same =
 
 triple_ends : Ends FitsKey triple_writes
 triple_ends k l us vs p q same =
-    let kind = text_ends k.kind l.kind _ _ p.0 q.0 (sym (bytes_after (text_writes k.kind) (text_writes k.other ++ text_writes k.value) us) ∙ same ∙ bytes_after (text_writes l.kind) (text_writes l.other ++ text_writes l.value) vs) in
+    let kind = text_ends k.kind l.kind _ _ p.0 q.0 (sym (bytes_after (text_writes k.kind) (text_writes k.other ++ text_writes k.value) us) ∙ same
+    ∙ bytes_after (text_writes l.kind) (text_writes l.other ++ text_writes l.value) vs) in
     let rest = both_end FitsText FitsText text_writes text_writes text_ends text_ends k.other l.other k.value l.value us vs p.1 q.1 p.2 q.2 kind.1 in
     ((λ i. record { kind = kind.0 i; other = rest.0 i; value = rest.1 i }), rest.2)
 
@@ -106,7 +109,8 @@ tag_some (array ds) e = absurd (omega (arith, e))
 tag_some (object ms) e = absurd (omega (arith, e))
 
 -- Two values that are written alike begin with one number.
-alike : (d e : Data) (us vs : List ℕ) → bytes_in (value_writes d) ++ us ≡ bytes_in (value_writes e) ++ vs → (tag d ≡ tag e) × (bytes_in (content d) ++ us ≡ bytes_in (content e) ++ vs)
+alike : (d e : Data) (us vs : List ℕ) → bytes_in (value_writes d) ++ us ≡ bytes_in (value_writes e) ++ vs → (tag d ≡ tag e)
+    × (bytes_in (content d) ++ us ≡ bytes_in (content e) ++ vs)
 alike d e us vs same =
     begins (tag d) (tag e) (content d) (content e) us vs (tag_small d) (tag_small e)
     (ap (λ ws. bytes_in ws ++ us) (sym (begun d)) ∙ same ∙ ap (λ ws. bytes_in ws ++ vs) (begun e))
@@ -166,11 +170,15 @@ mutual
   members_end : Ends FitsMembers members_writes
   members_end no_members no_members us vs p q same = (refl, (begins (2 ^ 64 - 1) (2 ^ 64 - 1) [] [] us vs (omega arith) (omega arith) same).1)
   members_end no_members (member l e ns) us vs p q same =
-      absurd (no_text l (bytes_in (value_writes e ++ members_writes ns) ++ vs) us (sym (bytes_after (text_writes l) (value_writes e ++ members_writes ns) vs) ∙ sym same))
+      absurd (no_text l (bytes_in (value_writes e ++ members_writes ns) ++ vs) us
+      (sym (bytes_after (text_writes l) (value_writes e ++ members_writes ns) vs) ∙ sym same))
   members_end (member k d ms) no_members us vs p q same =
-      absurd (no_text k (bytes_in (value_writes d ++ members_writes ms) ++ us) vs (sym (bytes_after (text_writes k) (value_writes d ++ members_writes ms) us) ∙ same))
+      absurd (no_text k (bytes_in (value_writes d ++ members_writes ms) ++ us) vs
+      (sym (bytes_after (text_writes k) (value_writes d ++ members_writes ms) us) ∙ same))
   members_end (member k d ms) (member l e ns) us vs p q same =
-      let name = text_ends k l _ _ p.0 q.0 (sym (bytes_after (text_writes k) (value_writes d ++ members_writes ms) us) ∙ same ∙ bytes_after (text_writes l) (value_writes e ++ members_writes ns) vs) in
+      let name =
+      text_ends k l _ _ p.0 q.0 (sym (bytes_after (text_writes k) (value_writes d ++ members_writes ms) us) ∙ same
+      ∙ bytes_after (text_writes l) (value_writes e ++ members_writes ns) vs) in
       let first = value_ends d e (bytes_in (members_writes ms) ++ us) (bytes_in (members_writes ns) ++ vs) p.1 q.1
       (sym (bytes_after (value_writes d) (members_writes ms) us) ∙ name.1 ∙ bytes_after (value_writes e) (members_writes ns) vs) in
       let rest = members_end ms ns us vs p.2 q.2 first.1 in
@@ -230,7 +238,8 @@ numbers_alike m n a b c d e f p q r s t u v w same = (omega arith, omega arith, 
 parts_alike : (h k : Hashed) → first_number h ≡ first_number k → SameParts h k
 unfolding first_number
 parts_alike h k same =
-    let bits = numbers_alike _ _ _ _ _ _ _ _ (number_small h.family) (number_small k.family) (bit_small (is_some h.id)) (bit_small (is_some h.key)) (bit_small (is_some h.selection))
+    let bits = numbers_alike _ _ _ _ _ _ _ _ (number_small h.family) (number_small k.family) (bit_small (is_some h.id)) (bit_small (is_some h.key))
+    (bit_small (is_some h.selection))
     (bit_small (is_some k.id)) (bit_small (is_some k.key)) (bit_small (is_some k.selection)) same in
     record {
       family = number_exact h.family k.family bits.0;
@@ -251,8 +260,10 @@ hashed_ends h k us vs p q same =
     let after = λ (l : Hashed). option_writes triple_writes l.key ++ option_writes value_writes l.selection in
     let ids = option_ends FitsText text_writes text_ends h.id k.id (bytes_in (after h) ++ us) (bytes_in (after k) ++ vs) parts.id p.id q.id
     (sym (bytes_after (option_writes text_writes h.id) (after h) us) ∙ numbers.1 ∙ bytes_after (option_writes text_writes k.id) (after k) vs) in
-    let keys = option_ends FitsKey triple_writes triple_ends h.key k.key (bytes_in (option_writes value_writes h.selection) ++ us) (bytes_in (option_writes value_writes k.selection) ++ vs) parts.key p.key q.key
-    (sym (bytes_after (option_writes triple_writes h.key) (option_writes value_writes h.selection) us) ∙ ids.1 ∙ bytes_after (option_writes triple_writes k.key) (option_writes value_writes k.selection) vs) in
+    let keys = option_ends FitsKey triple_writes triple_ends h.key k.key (bytes_in (option_writes value_writes h.selection) ++ us)
+    (bytes_in (option_writes value_writes k.selection) ++ vs) parts.key p.key q.key
+    (sym (bytes_after (option_writes triple_writes h.key) (option_writes value_writes h.selection) us) ∙ ids.1 ∙ bytes_after (option_writes triple_writes k.key)
+    (option_writes value_writes k.selection) vs) in
     let selections = option_ends FitsValue value_writes value_ends h.selection k.selection us vs parts.selection p.selection q.selection keys.1 in
     ((λ i. record { family = parts.family i; id = ids.0 i; key = keys.0 i; selection = selections.0 i }), selections.1)
 
@@ -270,6 +281,7 @@ hashed_alike [] (k ∷ ks) p q same = absurd (some_bytes (first_number k) (hashe
 hashed_alike (h ∷ hs) [] p q same = absurd (some_bytes (first_number h) (hashed_rest h ++ flat_map hashed_writes hs) (sym same))
 hashed_alike (h ∷ hs) (k ∷ ks) p q same =
     let first = hashed_ends h k (bytes_in (flat_map hashed_writes hs)) (bytes_in (flat_map hashed_writes ks)) p.0 q.0
-    (sym (flat_map-append (λ w. w) (hashed_writes h) (flat_map hashed_writes hs)) ∙ same ∙ flat_map-append (λ w. w) (hashed_writes k) (flat_map hashed_writes ks)) in
+    (sym (flat_map-append (λ w. w) (hashed_writes h) (flat_map hashed_writes hs)) ∙ same ∙ flat_map-append (λ w. w) (hashed_writes k)
+    (flat_map hashed_writes ks)) in
     let rest = hashed_alike hs ks p.1 q.1 first.1 in
     λ i. first.0 i ∷ rest i

@@ -1,5 +1,12 @@
 -- The selections of a contest stand one after another among those of the report, after those of the contests before.
-use Rattle.erd_meaning.proofs.Common.{◌≡◌, ℕ, zero, suc, ◌+◌, ◌<◌, ◌⊎◌, List, [], ◌∷◌, ◌++◌, length, slice_get, refl, ap, inl, inr, ⊎_elim, arith, Bool, false, map, ◌==◌, codes, flat_map, sym, ◌∙◌, ap₂, append_assoc, append-nil, length-append, map-append, filter_map-append, Data, family_number, Family, family, Preference, Placed, placed_entries, report_of, elections, contests, selections_of_contest, has_several, numbered_selections_of, numbered_selections, contests_before, Kept, Located, located, contest_located, inside_election, election_located, shared_located, object_met, objects_among, kept_objects, numbered_from, ◌≤◌, true, cond, leb, get_or as slice_index_or, take, Some, None, Option, option_and_then, subst, true≢false, get_or-append-add, le-leb, Decides-eqb, leb_tells, length-map, get_or_append_left, AllByRecursion, IsNonDecreasingBy, ⊤, selections_before, IsStart, is_of_family, if_of_contest, StandFrom, false_from_ne_true}
+use Rattle.erd_meaning.proofs.Common.{◌≡◌, ℕ, zero, suc, ◌+◌, ◌<◌, ◌⊎◌, List, [], ◌∷◌, ◌++◌, length, slice_get, refl, ap, inl, inr, ⊎_elim, arith, Bool, false}
+use Rattle.erd_meaning.proofs.Common.{map, ◌==◌, codes, flat_map, sym, ◌∙◌, ap₂, append_assoc, append-nil, length-append, map-append, filter_map-append, Data}
+use Rattle.erd_meaning.proofs.Common.{family_number, Family, family, Preference, Placed, placed_entries, report_of, elections, contests, selections_of_contest}
+use Rattle.erd_meaning.proofs.Common.{has_several, numbered_selections_of, numbered_selections, contests_before, Kept, Located, located, contest_located}
+use Rattle.erd_meaning.proofs.Common.{inside_election, election_located, shared_located, object_met, objects_among, kept_objects, numbered_from, ◌≤◌, true}
+use Rattle.erd_meaning.proofs.Common.{cond, leb, get_or as slice_index_or, take, Some, None, Option, option_and_then, subst, true≢false, get_or-append-add}
+use Rattle.erd_meaning.proofs.Common.{le-leb, Decides-eqb, leb_tells, length-map, get_or_append_left, AllByRecursion, IsNonDecreasingBy, ⊤, selections_before}
+use Rattle.erd_meaning.proofs.Common.{IsStart, is_of_family, if_of_contest, StandFrom, false_from_ne_true}
 use Rattle.erd_meaning.proofs.selections.NamesTold.{Numbered}
 use Rattle.erd_meaning.proofs.identity.ObjectFamilies.{itself}
 
@@ -20,7 +27,8 @@ pub within_or_after : (n i : ℕ) → (i < n) ⊎ ((m : ℕ) × (i ≡ n + m))
 within_or_after zero i = let same : i ≡ 0 + i = omega arith in inr (i, same)
 within_or_after (suc n) zero = inl (omega arith)
 within_or_after (suc n) (suc i) =
-    ⊎_elim (λ (low : i < n). inl (omega arith)) (λ (r : (m : ℕ) × (i ≡ n + m)). let e : i ≡ n + r.0 = r.1 in let later : suc i ≡ suc n + r.0 = omega arith in inr (r.0, later)) (within_or_after n i)
+    ⊎_elim (λ (low : i < n). inl (omega arith)) (λ (r : (m : ℕ) × (i ≡ n + m)). let e : i ≡ n + r.0 = r.1 in let later : suc i ≡ suc n + r.0 = omega arith in
+    inr (r.0, later)) (within_or_after n i)
 
 -- ---- how many contests stand before each selection that is kept of a report is the number of its contest and one
 
@@ -29,7 +37,8 @@ abbrev objects_of : List Located → List Kept
 objects_of xs = objects_among (map (λ x. x.met) xs)
 
 objects_of-append : (xs ys : List Located) → objects_of (xs ++ ys) ≡ objects_of xs ++ objects_of ys
-objects_of-append xs ys = ap objects_among (map-append (λ (x : Located). x.met) xs ys) ∙ filter_map-append object_met (map (λ x. x.met) xs) (map (λ x. x.met) ys)
+objects_of-append xs ys = ap objects_among (map-append (λ (x : Located). x.met) xs ys)
+    ∙ filter_map-append object_met (map (λ x. x.met) xs) (map (λ x. x.met) ys)
 
 -- how many contests there are up to those of the selections
 abbrev pub counts_of : List Numbered → List ℕ
@@ -51,7 +60,8 @@ passed : (π : Preference) (f : Family) → (family_number f == family_number fa
 passed π f s c [] n ks = refl
 passed π f s c (o ∷ os) n ks = rw (s, c) (passed π f s c os n ks)
 
-selections_counted : (π : Preference) (k : ℕ) (os : List Placed) → Counts (located π family.Selection os) (k + 1) (counts_of (map {B = Numbered} (λ o. (k, o)) os)) (k + 1)
+selections_counted : (π : Preference) (k : ℕ) (os : List Placed) → Counts (located π family.Selection os) (k + 1)
+    (counts_of (map {B = Numbered} (λ o. (k, o)) os)) (k + 1)
 selections_counted π k [] ks = refl
 selections_counted π k (o ∷ os) ks = ap (λ ns. (k + 1) ∷ ns) (selections_counted π k os ks)
 
@@ -67,7 +77,8 @@ contests_counted : (π : Preference) (k : ℕ) (os : List Placed) → Counts (fl
 contests_counted π k [] ks = let none : k ≡ k + 0 = omega arith in ap (λ n. contests_before n ks) none
 contests_counted π k (o ∷ os) ks =
     let next : k + 1 + length os ≡ k + length (o ∷ os) = omega arith in
-    counts-append (contest_located π o) (flat_map (contest_located π) os) k (k + 1) (k + 1 + length os) (counts_of (numbered_selections_of (k, o))) (counts_of (numbered_from (k + 1) os))
+    counts-append (contest_located π o) (flat_map (contest_located π) os) k (k + 1) (k + 1 + length os) (counts_of (numbered_selections_of (k, o)))
+    (counts_of (numbered_from (k + 1) os))
     (contest_counted π k o) (contests_counted π (k + 1) os) ks
     ∙ ap₂ (λ ns m. ns ++ contests_before m ks) (sym (counts_of-append (numbered_selections_of (k, o)) (numbered_from (k + 1) os))) next
 
@@ -76,13 +87,16 @@ contests_counted π k (o ∷ os) ks =
 abbrev contests_of : Placed → List Placed
 contests_of e = placed_entries (codes "Contest") e
 
-election_counted : (π : Preference) (k : ℕ) (e : Placed) → Counts (inside_election π e) k (counts_of (numbered_from k (contests_of e))) (k + length (contests_of e))
+election_counted : (π : Preference) (k : ℕ) (e : Placed) → Counts (inside_election π e) k (counts_of (numbered_from k (contests_of e)))
+    (k + length (contests_of e))
 election_counted π k e =
     let styles = placed_entries (codes "BallotStyle") e in
     let candidates = placed_entries (codes "Candidate") e in
-    counts-append (located π family.Style styles) (located π family.Candidate candidates ++ flat_map (contest_located π) (contests_of e)) k k (k + length (contests_of e)) [] (counts_of (numbered_from k (contests_of e)))
+    counts-append (located π family.Style styles) (located π family.Candidate candidates ++ flat_map (contest_located π) (contests_of e)) k k
+    (k + length (contests_of e)) [] (counts_of (numbered_from k (contests_of e)))
     (passed π family.Style refl refl styles k)
-    (counts-append (located π family.Candidate candidates) (flat_map (contest_located π) (contests_of e)) k k (k + length (contests_of e)) [] (counts_of (numbered_from k (contests_of e)))
+    (counts-append (located π family.Candidate candidates) (flat_map (contest_located π) (contests_of e)) k k (k + length (contests_of e)) []
+    (counts_of (numbered_from k (contests_of e)))
     (passed π family.Candidate refl refl candidates k) (contests_counted π k (contests_of e)))
 
 pub numbered_from-append : (k : ℕ) (os ps : List Placed) → numbered_from k (os ++ ps) ≡ numbered_from k os ++ numbered_from (k + length os) ps
@@ -99,9 +113,9 @@ elections_counted π b k (e ∷ es) ks =
     let here = contests_of e in
     let later = flat_map contests_of es in
     let all : k + length here + length later ≡ k + length (here ++ later) = omega (arith, length-append {A = Placed}) in
-    counts-append (election_located π b e) (flat_map (election_located π b) es) k (k + length here) (k + length here + length later) (counts_of (numbered_from k here)) (counts_of (numbered_from (k + length here) later))
-    (election_counted π k e) (elections_counted π b (k + length here) es) ks
-    ∙ ap₂ (λ ns m. ns ++ contests_before m ks)
+    counts-append (election_located π b e) (flat_map (election_located π b) es) k (k + length here) (k + length here + length later)
+    (counts_of (numbered_from k here)) (counts_of (numbered_from (k + length here) later))
+    (election_counted π k e) (elections_counted π b (k + length here) es) ks ∙ ap₂ (λ ns m. ns ++ contests_before m ks)
     (sym (ap counts_of (numbered_from-append k here later) ∙ counts_of-append (numbered_from k here) (numbered_from (k + length here) later))) all
 
 -- ---- the report
@@ -137,13 +151,15 @@ from_less m n (x ∷ xs) low h = let first : n ≤ x = h.0 in (omega arith, h.1)
 before_rises : (n : ℕ) (ks : List Kept) → Rises n (contests_before n ks)
 unfolding Rises
 before_rises n [] = tt
-before_rises n (k ∷ ks) = at (family_number k.family == family_number family.Selection) (is_of_family family.Contest k) (before_rises n ks) (before_rises (n + 1) ks)
+before_rises n (k ∷ ks) = at (family_number k.family == family_number family.Selection) (is_of_family family.Contest k) (before_rises n ks)
+    (before_rises (n + 1) ks)
   where
     next : (b : Bool) → Rises n (contests_before n ks) → Rises (n + 1) (contests_before (n + 1) ks) → Rises n (contests_before (cond b (n + 1) n) ks)
     next true same more = from_less n (n + 1) (contests_before (n + 1) ks) (omega arith) more
     next false same more = same
 
-    at : (a b : Bool) → Rises n (contests_before n ks) → Rises (n + 1) (contests_before (n + 1) ks) → Rises n (cond a (n ∷ []) [] ++ contests_before (cond b (n + 1) n) ks)
+    at : (a b : Bool) → Rises n (contests_before n ks) → Rises (n + 1) (contests_before (n + 1) ks)
+        → Rises n (cond a (n ∷ []) [] ++ contests_before (cond b (n + 1) n) ks)
     at true b same more = (omega arith, next b same more)
     at false b same more = next b same more
 
@@ -181,7 +197,8 @@ of_number P n (o ∷ os) each = (each o, of_number P n os each)
 all_later : (m n : ℕ) (cs : List Placed) → m < n → AllByRecursion {X = Numbered} (λ s. m < s.0) (numbered_from n cs)
 all_later m n [] low = tt
 all_later m n (c ∷ cs) low =
-    all_both {A = Numbered} (λ s. m < s.0) (numbered_selections_of (n, c)) (numbered_from (n + 1) cs) (of_number (λ s. m < s.0) n (selections_of_contest c) (λ o. low)) (all_later m (n + 1) cs (omega arith))
+    all_both {A = Numbered} (λ s. m < s.0) (numbered_selections_of (n, c)) (numbered_from (n + 1) cs)
+    (of_number (λ s. m < s.0) n (selections_of_contest c) (λ o. low)) (all_later m (n + 1) cs (omega arith))
 
 -- as many as the contests have
 many_of_contest : (n : ℕ) (c : Placed) → length (numbered_selections_of (n, c)) ≡ length (selections_of_contest c)
@@ -230,10 +247,13 @@ split n (c ∷ cs) (suc k) o at =
     subst (λ m. Split (numbered_from n (c ∷ cs)) m o (many_in (c ∷ take k cs))) sum (record {
       before = numbered_selections_of (n, c) ++ h.before;
       after = h.after;
-      whole = ap (λ (ss : List Numbered). numbered_selections_of (n, c) ++ ss) h.whole ∙ sym (append_assoc {A = Numbered} (numbered_selections_of (n, c)) h.before (numbered_selections_of (n + 1 + k, o) ++ h.after));
-      low = all_both {A = Numbered} (λ s. s.0 < n + 1 + k) (numbered_selections_of (n, c)) h.before (of_number (λ s. s.0 < n + 1 + k) n (selections_of_contest c) (λ p. omega arith)) h.low;
+      whole = ap (λ (ss : List Numbered). numbered_selections_of (n, c) ++ ss) h.whole
+          ∙ sym (append_assoc {A = Numbered} (numbered_selections_of (n, c)) h.before (numbered_selections_of (n + 1 + k, o) ++ h.after));
+      low = all_both {A = Numbered} (λ s. s.0 < n + 1 + k) (numbered_selections_of (n, c)) h.before
+          (of_number (λ s. s.0 < n + 1 + k) n (selections_of_contest c) (λ p. omega arith)) h.low;
       high = h.high;
-      count = length-append {A = Numbered} (numbered_selections_of (n, c)) h.before ∙ one_more c (take k cs) (length (numbered_selections_of (n, c))) (length h.before) (many_of_contest n c) h.count;
+      count = length-append {A = Numbered} (numbered_selections_of (n, c)) h.before ∙ one_more c (take k cs) (length (numbered_selections_of (n, c)))
+          (length h.before) (many_of_contest n c) h.count;
     })
 
 all_below : (n : ℕ) (cs : List Placed) (k : ℕ) → slice_get cs k ≡ None → AllByRecursion {X = Numbered} (λ s. s.0 < n + k) (numbered_from n cs)
@@ -242,19 +262,23 @@ all_below n (c ∷ cs) zero at = cc
 all_below n (c ∷ cs) (suc k) at =
     let sum : n + 1 + k ≡ n + suc k = omega arith in
     subst (λ m. AllByRecursion {X = Numbered} (λ s. s.0 < m) (numbered_from n (c ∷ cs))) sum
-    (all_both {A = Numbered} (λ s. s.0 < n + 1 + k) (numbered_selections_of (n, c)) (numbered_from (n + 1) cs) (of_number (λ s. s.0 < n + 1 + k) n (selections_of_contest c) (λ p. omega arith)) (all_below (n + 1) cs k at))
+    (all_both {A = Numbered} (λ s. s.0 < n + 1 + k) (numbered_selections_of (n, c)) (numbered_from (n + 1) cs)
+    (of_number (λ s. s.0 < n + 1 + k) n (selections_of_contest c) (λ p. omega arith)) (all_below (n + 1) cs k at))
 
 -- ---- where they begin
 
 not_leb : (a b : ℕ) → b < a → leb a b ≡ false
-not_leb a b high = ⊎_elim (λ (h : (leb a b ≡ true) × (a ≤ b)). let low : a ≤ b = h.1 in absurd (omega arith)) (λ (h : (leb a b ≡ false) × (b < a)). h.0) (leb_tells a b)
+not_leb a b high = ⊎_elim (λ (h : (leb a b ≡ true) × (a ≤ b)). let low : a ≤ b = h.1 in absurd (omega arith))
+    (λ (h : (leb a b ≡ false) × (b < a)). h.0) (leb_tells a b)
 
-counts_low : (k : ℕ) (ss : List Numbered) (j d : ℕ) → AllByRecursion {X = Numbered} (λ s. s.0 < k) ss → j < length (counts_of ss) → leb (slice_index_or (counts_of ss) j d) k ≡ true
+counts_low : (k : ℕ) (ss : List Numbered) (j d : ℕ) → AllByRecursion {X = Numbered} (λ s. s.0 < k) ss → j < length (counts_of ss)
+    → leb (slice_index_or (counts_of ss) j d) k ≡ true
 counts_low k [] j d h low = absurd (omega arith)
 counts_low k (s ∷ ss) zero d h low = let less : s.0 < k = h.0 in le-leb (s.0 + 1) k (omega arith)
 counts_low k (s ∷ ss) (suc j) d h low = counts_low k ss j d h.1 (omega arith)
 
-counts_high : (k : ℕ) (ss : List Numbered) (j d : ℕ) → AllByRecursion {X = Numbered} (λ s. k ≤ s.0) ss → j < length (counts_of ss) → leb (slice_index_or (counts_of ss) j d) k ≡ false
+counts_high : (k : ℕ) (ss : List Numbered) (j d : ℕ) → AllByRecursion {X = Numbered} (λ s. k ≤ s.0) ss → j < length (counts_of ss)
+    → leb (slice_index_or (counts_of ss) j d) k ≡ false
 counts_high k [] j d h low = absurd (omega arith)
 counts_high k (s ∷ ss) zero d h low = let more : k ≤ s.0 = h.0 in not_leb (s.0 + 1) k (omega arith)
 counts_high k (s ∷ ss) (suc j) d h low = counts_high k ss j d h.1 (omega arith)
@@ -262,7 +286,8 @@ counts_high k (s ∷ ss) (suc j) d h low = counts_high k ss j d h.1 (omega arith
 many : (ss : List Numbered) → length (counts_of ss) ≡ length ss
 many ss = length-map {A = Numbered} ss (λ s. s.0 + 1)
 
-module _ (k r : ℕ) (ss rs : List Numbered) (start : IsStart (counts_of ss ++ counts_of rs) k r) (low : AllByRecursion {X = Numbered} (λ s. s.0 < k) ss) (high : AllByRecursion {X = Numbered} (λ s. k ≤ s.0) rs) where
+module _ (k r : ℕ) (ss rs : List Numbered) (start : IsStart (counts_of ss ++ counts_of rs) k r) (low : AllByRecursion {X = Numbered} (λ s. s.0 < k) ss)
+    (high : AllByRecursion {X = Numbered} (λ s. k ≤ s.0) rs) where
   abbrev ms : List ℕ
   ms = counts_of ss
 
@@ -305,7 +330,8 @@ module _ (k r : ℕ) (ss rs : List Numbered) (start : IsStart (counts_of ss ++ c
 not_same : (m n : ℕ) → n < m → (m == n) ≡ false
 not_same m n less = false_from_ne_true (m == n) (λ e. let same : m ≡ n = (Decides-eqb m n).0 e in omega arith)
 
-none_of_later : (k : ℕ) (ss : List Numbered) (i : ℕ) → AllByRecursion {X = Numbered} (λ s. k < s.0) ss → option_and_then (if_of_contest k) (slice_get ss i) ≡ None
+none_of_later : (k : ℕ) (ss : List Numbered) (i : ℕ) → AllByRecursion {X = Numbered} (λ s. k < s.0) ss → option_and_then (if_of_contest k)
+    (slice_get ss i) ≡ None
 none_of_later k [] i h = refl
 none_of_later k (s ∷ ss) zero h = ap (λ b. cond b (Some s.1) None) (not_same s.0 k h.0)
 none_of_later k (s ∷ ss) (suc i) h = none_of_later k ss i h.1
@@ -327,14 +353,16 @@ from_contest k i o after high = at (within_or_after (length own) i)
     own : List Numbered
     own = numbered_selections_of (k, o)
 
-    at : (i < length own) ⊎ ((m : ℕ) × (i ≡ length own + m)) → option_and_then (if_of_contest k) (slice_get (own ++ after) i) ≡ slice_get (selections_of_contest o) i
+    at : (i < length own) ⊎ ((m : ℕ) × (i ≡ length own + m)) → option_and_then (if_of_contest k) (slice_get (own ++ after) i)
+        ≡ slice_get (selections_of_contest o) i
     at (inl low) = ap (option_and_then (if_of_contest k)) (get_first own after i low) ∙ own_selections k (selections_of_contest o) i
     at (inr past) =
         let same : length own ≡ length (selections_of_contest o) = length-map {B = Numbered} (selections_of_contest o) (λ p. (k, p)) in
         ap (option_and_then (if_of_contest k)) (get_later own after i past.0 past.1) ∙ none_of_later k after past.0 high
         ∙ sym (past_end (selections_of_contest o) i past.0 (past.1 ∙ ap (λ n. n + past.0) same))
 
-all_high : (k : ℕ) (os : List Placed) (after : List Numbered) → AllByRecursion {X = Numbered} (λ s. k < s.0) after → AllByRecursion {X = Numbered} (λ s. k ≤ s.0) (map {B = Numbered} (λ o. (k, o)) os ++ after)
+all_high : (k : ℕ) (os : List Placed) (after : List Numbered) → AllByRecursion {X = Numbered} (λ s. k < s.0) after
+    → AllByRecursion {X = Numbered} (λ s. k ≤ s.0) (map {B = Numbered} (λ o. (k, o)) os ++ after)
 all_high k [] [] h = tt
 all_high k [] (s ∷ ss) h = let less : k < s.0 = h.0 in (omega arith, all_high k [] ss h.1)
 all_high k (o ∷ os) after h = (omega arith, all_high k os after h)
@@ -361,7 +389,8 @@ module _ (cs : List Placed) (k : ℕ) where
     where
       at : (o : Option Placed) → slice_get cs k ≡ o → r ≡ many_in (take k cs)
       at None e =
-          let low : AllByRecursion {X = Numbered} (λ s. s.0 < k) (numbered_from 0 cs) = subst (λ m. AllByRecursion {X = Numbered} (λ s. s.0 < m) (numbered_from 0 cs)) zero_more (all_below 0 cs k e) in
+          let low : AllByRecursion {X = Numbered} (λ s. s.0 < k) (numbered_from 0 cs) =
+          subst (λ m. AllByRecursion {X = Numbered} (λ s. s.0 < m) (numbered_from 0 cs)) zero_more (all_below 0 cs k e) in
           let whole = sym (counts_of-append (numbered_from 0 cs) []) ∙ ap counts_of (append-nil (numbered_from 0 cs)) in
           one_start k r (numbered_from 0 cs) [] (subst (λ ns. IsStart ns k r) (sym whole) start) low tt ∙ all_before e
       at (Some o) e =
@@ -371,17 +400,19 @@ module _ (cs : List Placed) (k : ℕ) where
           one_start k r h.before rest (subst (λ ns. IsStart ns k r) whole start) h.low (all_high k (selections_of_contest o) h.after h.high) ∙ h.count
 
   -- the selections that stand at and after the start
-  found_at : (r i : ℕ) → r ≡ many_in (take k cs)
-      → option_and_then (if_of_contest k) (slice_get (numbered_from 0 cs) (r + i)) ≡ option_and_then (λ o. slice_get (selections_of_contest o) i) (slice_get cs k)
+  found_at : (r i : ℕ) → r ≡ many_in (take k cs) → option_and_then (if_of_contest k) (slice_get (numbered_from 0 cs) (r + i))
+      ≡ option_and_then (λ o. slice_get (selections_of_contest o) i) (slice_get cs k)
   found_at r i start = at (slice_get cs k) refl
     where
-      at : (o : Option Placed) → slice_get cs k ≡ o → option_and_then (if_of_contest k) (slice_get (numbered_from 0 cs) (r + i)) ≡ option_and_then (λ o. slice_get (selections_of_contest o) i) o
+      at : (o : Option Placed) → slice_get cs k ≡ o → option_and_then (if_of_contest k) (slice_get (numbered_from 0 cs) (r + i))
+          ≡ option_and_then (λ o. slice_get (selections_of_contest o) i) o
       at None e = ap (option_and_then (if_of_contest k)) (past_end (numbered_from 0 cs) (r + i) i (ap (λ n. n + i) (start ∙ sym (all_before e))))
       at (Some o) e =
           let h = parted o e in
           let rest = numbered_selections_of (k, o) ++ h.after in
           ap (λ (ss : List Numbered). option_and_then (if_of_contest k) (slice_get ss (r + i))) h.whole
-          ∙ ap (option_and_then (if_of_contest k)) (get_later h.before rest (r + i) i (ap (λ n. n + i) (start ∙ sym h.count))) ∙ from_contest k i o h.after h.high
+          ∙ ap (option_and_then (if_of_contest k)) (get_later h.before rest (r + i) i (ap (λ n. n + i) (start ∙ sym h.count)))
+          ∙ from_contest k i o h.after h.high
 
 -- the start, by the contests before
 pub start_counted : (t : Data) (k r : ℕ) → IsStart (counts_of (numbered_selections t)) k r → r ≡ selections_before t k

@@ -1,9 +1,12 @@
 -- Meeting selections, some and then more.
-use Rattle.erd_meaning.proofs.Common.{◌≡◌, ℕ, ◌+◌, ◌<◌, ◌≤◌, List, [], ◌∷◌, ◌++◌, map, length, get_or, drop, codes, Option, flat_map, sym, refl, ap, ◌∙◌, ap₂, arith, length-append, at_drop_more, at_drop_all, Data, view, Value, Step, Name, entries_at, NameParts, Placed, placed_from, placed_entries, contests, numbered_selections_of, numbered_from, NamesMet, named_one, named_all}
+use Rattle.erd_meaning.proofs.Common.{◌≡◌, ℕ, ◌+◌, ◌<◌, ◌≤◌, List, [], ◌∷◌, ◌++◌, map, length, get_or, drop, codes, Option, flat_map, sym, refl, ap, ◌∙◌, ap₂}
+use Rattle.erd_meaning.proofs.Common.{arith, length-append, at_drop_more, at_drop_all, Data, view, Value, Step, Name, entries_at, NameParts, Placed}
+use Rattle.erd_meaning.proofs.Common.{placed_from, placed_entries, contests, numbered_selections_of, numbered_from, NamesMet, named_one, named_all}
 use Rattle.erd_meaning.proofs.identity.MetObjects.{entry}
 use Rattle.erd_meaning.proofs.selections.ContestSelections.{numbered_from-append}
 
-pub named_all_append : (name : Data → Option NameParts) (m : NamesMet) (xs ys : List (ℕ × Placed)) → named_all name m (xs ++ ys) ≡ named_all name (named_all name m xs) ys
+pub named_all_append : (name : Data → Option NameParts) (m : NamesMet) (xs ys : List (ℕ × Placed)) → named_all name m (xs ++ ys)
+    ≡ named_all name (named_all name m xs) ys
 named_all_append name m [] ys = refl
 named_all_append name m (x ∷ xs) ys = named_all_append name (named_one name m x) xs ys
 
@@ -15,8 +18,8 @@ of_contests_from first p i vs = numbered_from (first + i) (placed_from p i (map 
 
 -- one contest after another
 pub named_inside : (name : Data → Option NameParts) (first : ℕ) (p : List Step) (vs : List Value) (i : ℕ) (v : Value) (m n whole : NamesMet) → i < length vs
-    → v ≡ get_or vs i v → named_all name m (of_contests_from first p i (drop i vs)) ≡ whole → n ≡ named_all name m (numbered_selections_of (first + i, entry p i v))
-    → named_all name n (of_contests_from first p (i + 1) (drop (i + 1) vs)) ≡ whole
+    → v ≡ get_or vs i v → named_all name m (of_contests_from first p i (drop i vs)) ≡ whole
+    → n ≡ named_all name m (numbered_selections_of (first + i, entry p i v)) → named_all name n (of_contests_from first p (i + 1) (drop (i + 1) vs)) ≡ whole
 named_inside name first p vs i v m n whole inside is before more =
     let left = λ (ws : List Value). named_all name m (of_contests_from first p i ws) in
     let later = placed_from p (i + 1) (map view (drop (i + 1) vs)) in
@@ -53,8 +56,8 @@ first_left f p vs i v inside is =
     at_drop_more left vs i v inside ∙ ap (λ w. left (w ∷ drop (i + 1) vs)) (sym is)
 
 -- the contests of an election are counted among those that are left
-pub within_all : (name : Data → Option NameParts) (p : List Step) (vs : List Value) (start m : NamesMet) (i number : ℕ) (v : Value) → i < length vs → v ≡ get_or vs i v
-    → ElectionsLeft name p vs start m i number → number + length (contests_of (entry p i v)) ≤ length (contests_from p 0 vs)
+pub within_all : (name : Data → Option NameParts) (p : List Step) (vs : List Value) (start m : NamesMet) (i number : ℕ) (v : Value)
+    → i < length vs → v ≡ get_or vs i v → ElectionsLeft name p vs start m i number → number + length (contests_of (entry p i v)) ≤ length (contests_from p 0 vs)
 within_all name p vs start m i number v inside is left =
     let here = contests_of (entry p i v) in
     let later = contests_from p (i + 1) (drop (i + 1) vs) in
@@ -62,9 +65,9 @@ within_all name p vs start m i number v inside is left =
     let counted : number + length (contests_from p i (drop i vs)) ≡ length (contests_from p 0 vs) = left.counted in
     omega arith
 
-pub election_left : (name : Data → Option NameParts) (p : List Step) (vs : List Value) (start m n : NamesMet) (i number next : ℕ) (v : Value) → i < length vs → v ≡ get_or vs i v
-    → ElectionsLeft name p vs start m i number → next ≡ number + length (contests_of (entry p i v)) → n ≡ named_all name m (numbered_from number (contests_of (entry p i v)))
-    → ElectionsLeft name p vs start n (i + 1) next
+pub election_left : (name : Data → Option NameParts) (p : List Step) (vs : List Value) (start m n : NamesMet) (i number next : ℕ) (v : Value)
+    → i < length vs → v ≡ get_or vs i v → ElectionsLeft name p vs start m i number → next ≡ number + length (contests_of (entry p i v))
+    → n ≡ named_all name m (numbered_from number (contests_of (entry p i v))) → ElectionsLeft name p vs start n (i + 1) next
 election_left name p vs start m n i number next v inside is left after met =
     let here = contests_of (entry p i v) in
     let later = contests_from p (i + 1) (drop (i + 1) vs) in
@@ -79,8 +82,8 @@ election_left name p vs start m n i number next v inside is left after met =
       counted = omega (arith, after);
     }
 
-pub none_left : (name : Data → Option NameParts) (p : List Step) (vs : List Value) (start m : NamesMet) (i number : ℕ) → length vs ≤ i → ElectionsLeft name p vs start m i number
-    → m ≡ named_all name start (numbered_from 0 (contests_from p 0 vs))
+pub none_left : (name : Data → Option NameParts) (p : List Step) (vs : List Value) (start m : NamesMet) (i number : ℕ) → length vs ≤ i
+    → ElectionsLeft name p vs start m i number → m ≡ named_all name start (numbered_from 0 (contests_from p 0 vs))
 none_left name p vs start m i number over left =
     sym (at_drop_all (λ (ws : List Value). named_all name m (numbered_from number (contests_from p i ws))) vs i over) ∙ left.named
 

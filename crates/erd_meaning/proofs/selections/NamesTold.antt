@@ -1,5 +1,13 @@
 -- What the walk over selections tells of them, in order: exactly the faults of selections.
-use Rattle.erd_meaning.proofs.Common.{◌≡◌, ℕ, Bool, true, false, cond, ◌||◌, ◌⊎◌, List, [], ◌∷◌, ◌++◌, ◌==◌, Some, None, Option, flat_map, is_eq, Ordering, Less, sym, refl, ap, ◌∙◌, subst, ap₂, inl, inr, append_assoc, append-nil, and_parts, and_from, Decides-eqb, tied_itself, IsStrictlySortedBy, option_map_or, Data, fault_cmp, place_cmp, Fault, TwinSelection, In, In-append_left, In-append_right, In-append, any_at, In-any, In-all, sorted_append, fault_at, NameParts, Placed, name_cmp, fault_if, name_cmp_total, name_cmp_exact, NumberedName, is_selection_named, is_taken, NamesMet, added_name, with_name, named_one, named_all, Equal-is, or-false, list_any-append, arith, suc, ◌+◌, map, slice_get, option_map, map-append, same_Some, slice_get-map, enumerate_from, Selection, In-map, In-map_from, In-flat_map, all_from_In, Preference, contests, selections_of_contest, numbered_selections_of, numbered_selections, Located, located_one, located, ListsAll, Reason, Step, In-from_contains, contains_from_In, IsBefore, SelectionFault, RepeatsName, name_of, objects, In-flat_map_from}
+use Rattle.erd_meaning.proofs.Common.{◌≡◌, ℕ, Bool, true, false, cond, ◌||◌, ◌⊎◌, List, [], ◌∷◌, ◌++◌, ◌==◌, Some, None, Option, flat_map, is_eq, Ordering}
+use Rattle.erd_meaning.proofs.Common.{Less, sym, refl, ap, ◌∙◌, subst, ap₂, inl, inr, append_assoc, append-nil, and_parts, and_from, Decides-eqb, tied_itself}
+use Rattle.erd_meaning.proofs.Common.{IsStrictlySortedBy, option_map_or, Data, fault_cmp, place_cmp, Fault, TwinSelection, In, In-append_left, In-append_right}
+use Rattle.erd_meaning.proofs.Common.{In-append, any_at, In-any, In-all, sorted_append, fault_at, NameParts, Placed, name_cmp, fault_if, name_cmp_total}
+use Rattle.erd_meaning.proofs.Common.{name_cmp_exact, NumberedName, is_selection_named, is_taken, NamesMet, added_name, with_name, named_one, named_all}
+use Rattle.erd_meaning.proofs.Common.{Equal-is, or-false, list_any-append, arith, suc, ◌+◌, map, slice_get, option_map, map-append, same_Some, slice_get-map}
+use Rattle.erd_meaning.proofs.Common.{enumerate_from, Selection, In-map, In-map_from, In-flat_map, all_from_In, Preference, contests, selections_of_contest}
+use Rattle.erd_meaning.proofs.Common.{numbered_selections_of, numbered_selections, Located, located_one, located, ListsAll, Reason, Step, In-from_contains}
+use Rattle.erd_meaning.proofs.Common.{contains_from_In, IsBefore, SelectionFault, RepeatsName, name_of, objects, In-flat_map_from}
 use Rattle.erd_check.proofs.Lists.{both_empty}
 use Rattle.erd_meaning.proofs.identity.IdentityFaults.{at_true}
 use Rattle.erd_meaning.proofs.identity.ObjectFamilies.{itself}
@@ -66,8 +74,7 @@ added_same ns ms c n h d k = at (is_taken ns c n) refl ∙ sym (list_any-append 
     at : (b : Bool) → is_taken ns c n ≡ b → is_taken (cond b ns (ns ++ (c, n) ∷ [])) d k ≡ (is_taken ms d k || (is_selection_named d k (c, n) || false))
     at false e = list_any-append {X = NumberedName} (is_selection_named d k) ns ((c, n) ∷ []) ∙ ap (λ b. b || (is_selection_named d k (c, n) || false)) (h d k)
     at true e =
-        h d k
-        ∙ or_same (is_taken ms d k) (is_selection_named d k (c, n) || false)
+        h d k ∙ or_same (is_taken ms d k) (is_selection_named d k (c, n) || false)
         (λ t.
         let one = is_named_from (c, n) d k (sym (or-false (is_selection_named d k (c, n))) ∙ t) in
         sym (h d k) ∙ ap (λ (s : NumberedName). is_taken ns s.0 s.1) (sym one) ∙ e)
@@ -93,7 +100,8 @@ all_faults name m full (x ∷ xs) h =
 not_told : (b : Bool) (f : Fault) → fault_if b f ≡ [] → b ≡ false
 not_told b f e = grind arith
 
-one_names : (m : NamesMet) (x : Numbered) (o : Option NameParts) → fault_of m.names x o ≡ [] → (option_map_or (with_name m x.1.place x.0) o m).names ≡ m.names ++ name_if x.0 o
+one_names : (m : NamesMet) (x : Numbered) (o : Option NameParts) → fault_of m.names x o ≡ [] → (option_map_or (with_name m x.1.place x.0) o m).names
+    ≡ m.names ++ name_if x.0 o
 one_names m x None e = sym (append-nil m.names)
 one_names m x (Some n) e = ap (λ b. cond b m.names (m.names ++ (x.0, n) ∷ [])) (not_told (is_taken m.names x.0 n) (fault_at x.1.place TwinSelection) e)
 
@@ -133,15 +141,17 @@ pub record ToldTwin (name : Data → Option NameParts) (earlier : List NumberedN
   pub is : fault_at one.1.place TwinSelection ≡ f
   pub other : In {A = NumberedName} (one.0, parts) earlier ⊎ HasEarlier name xs one parts
 
-first_told : (name : Data → Option NameParts) (earlier : List NumberedName) (x : Numbered) (xs : List Numbered) (f : Fault) (o : Option NameParts) → name x.1.value ≡ o
-    → In f (fault_of earlier x o) → ToldTwin name earlier (x ∷ xs) f
+first_told : (name : Data → Option NameParts) (earlier : List NumberedName) (x : Numbered) (xs : List Numbered) (f : Fault)
+    (o : Option NameParts) → name x.1.value ≡ o → In f (fault_of earlier x o) → ToldTwin name earlier (x ∷ xs) f
 first_told name earlier x xs f None e h = absurd h
 first_told name earlier x xs f (Some n) e h =
     let both = in_if (is_taken earlier x.0 n) (fault_at x.1.place TwinSelection) f h in
     record { one = x; there = inl refl; parts = n; named = e; is = both.1; other = inl (taken_from earlier x.0 n both.0) }
 
-later_told : (name : Data → Option NameParts) (earlier : List NumberedName) (x : Numbered) (xs : List Numbered) (one : Numbered) (n : NameParts) → in_places x one ≡ Less
-    → In {A = NumberedName} (one.0, n) (earlier ++ name_list name x) ⊎ HasEarlier name xs one n → In {A = NumberedName} (one.0, n) earlier ⊎ HasEarlier name (x ∷ xs) one n
+later_told : (name : Data → Option NameParts) (earlier : List NumberedName) (x : Numbered) (xs : List Numbered) (one : Numbered) (n : NameParts)
+    → in_places x one ≡ Less
+    → In {A = NumberedName} (one.0, n) (earlier ++ name_list name x) ⊎ HasEarlier name xs one n → In {A = NumberedName} (one.0, n) earlier
+    ⊎ HasEarlier name (x ∷ xs) one n
 later_told name earlier x xs one n less (inl h) = elim (In-append {A = NumberedName} (one.0, n) earlier (name_list name x) h) [
   | inl a ↦ inl a
   | inr b ↦ let is = in_name x.0 (name x.1.value) one.0 n b in inr (x, inl refl, is.0, is.1, less)
@@ -167,9 +177,11 @@ fault_here : (earlier : List NumberedName) (x : Numbered) (n : NameParts) (o : O
 fault_here earlier x n None e i = cc
 fault_here earlier x n (Some m) e i =
     let same : n ≡ m = cc in
-    at_true (is_taken earlier x.0 m) (fault_at x.1.place TwinSelection) (taken_by earlier x.0 m (subst (λ (p : NameParts). In {A = NumberedName} (x.0, p) earlier) same i))
+    at_true (is_taken earlier x.0 m) (fault_at x.1.place TwinSelection)
+    (taken_by earlier x.0 m (subst (λ (p : NameParts). In {A = NumberedName} (x.0, p) earlier) same i))
 
-pub twin_told : (name : Data → Option NameParts) (earlier : List NumberedName) (xs : List Numbered) (one : Numbered) (n : NameParts) → IsStrictlySortedBy in_places xs
+pub twin_told : (name : Data → Option NameParts) (earlier : List NumberedName) (xs : List Numbered) (one : Numbered) (n : NameParts)
+    → IsStrictlySortedBy in_places xs
     → In {A = Numbered} one xs → name one.1.value ≡ Some n → In {A = NumberedName} (one.0, n) earlier ⊎ HasEarlier name xs one n
     → In (fault_at one.1.place TwinSelection) (names_told name earlier xs)
 unfolding IsStrictlySortedBy
@@ -177,7 +189,8 @@ twin_told name earlier [] one n rising i e other = absurd i
 twin_told name earlier (x ∷ xs) one n rising (inl same) e (inl taken) =
     subst (λ (z : Numbered). In (fault_at z.1.place TwinSelection) (names_told name earlier (x ∷ xs))) same
     (In-append_left (fault_at x.1.place TwinSelection) (fault_after name earlier x) (names_told name (earlier ++ name_list name x) xs)
-    (fault_here earlier x n (name x.1.value) (ap (λ (z : Numbered). name z.1.value) same ∙ e) (subst (λ (z : Numbered). In {A = NumberedName} (z.0, n) earlier) (sym same) taken)))
+    (fault_here earlier x n (name x.1.value) (ap (λ (z : Numbered). name z.1.value) same ∙ e)
+    (subst (λ (z : Numbered). In {A = NumberedName} (z.0, n) earlier) (sym same) taken)))
 twin_told name earlier (x ∷ xs) one n rising (inl same) e (inr (y, j, c, g, less)) = absurd (none j)
   where
     before : in_places y x ≡ Less
@@ -190,7 +203,8 @@ twin_told name earlier (x ∷ xs) one n rising (inr i) e other =
     In-append_right (fault_at one.1.place TwinSelection) (fault_after name earlier x) (names_told name (earlier ++ name_list name x) xs)
     (twin_told name (earlier ++ name_list name x) xs one n rising.1 i e (onward other))
   where
-    onward : In {A = NumberedName} (one.0, n) earlier ⊎ HasEarlier name (x ∷ xs) one n → In {A = NumberedName} (one.0, n) (earlier ++ name_list name x) ⊎ HasEarlier name xs one n
+    onward : In {A = NumberedName} (one.0, n) earlier ⊎ HasEarlier name (x ∷ xs) one n → In {A = NumberedName} (one.0, n) (earlier ++ name_list name x)
+        ⊎ HasEarlier name xs one n
     onward (inl taken) = inl (In-append_left {A = NumberedName} (one.0, n) earlier (name_list name x) taken)
     onward (inr (y, inl first, c, g, less)) =
         inl (In-append_right {A = NumberedName} (one.0, n) earlier (name_list name x)
@@ -224,8 +238,8 @@ names_rising name earlier (x ∷ xs) rising =
 
 -- ---- their order
 
-sorted_from_map : {A B : Type 0} (f : A → B) (cmp : A → A → Ordering) (cmp' : B → B → Ordering) → ((x y : A) → cmp' (f x) (f y) ≡ Less → cmp x y ≡ Less) → (xs : List A)
-    → IsStrictlySortedBy cmp' (map f xs) → IsStrictlySortedBy cmp xs
+sorted_from_map : {A B : Type 0} (f : A → B) (cmp : A → A → Ordering) (cmp' : B → B → Ordering)
+    → ((x y : A) → cmp' (f x) (f y) ≡ Less → cmp x y ≡ Less) → (xs : List A) → IsStrictlySortedBy cmp' (map f xs) → IsStrictlySortedBy cmp xs
 unfolding IsStrictlySortedBy
 sorted_from_map f cmp cmp' back [] p = tt
 sorted_from_map f cmp cmp' back (x ∷ xs) p = (
@@ -236,19 +250,23 @@ sorted_from_map f cmp cmp' back (x ∷ xs) p = (
 abbrev located_selection : Preference → Numbered → Located
 located_selection π s = located_one π Selection s.1
 
-of_contest : (π : Preference) (k : ℕ) (os : List Placed) → map {A = Numbered} (located_selection π) (map {B = Numbered} (λ o. (k, o)) os) ≡ located π Selection os
+of_contest : (π : Preference) (k : ℕ) (os : List Placed) → map {A = Numbered} (located_selection π) (map {B = Numbered} (λ o. (k, o)) os)
+    ≡ located π Selection os
 of_contest π k [] = refl
 of_contest π k (o ∷ os) = ap (λ xs. located_one π Selection o ∷ xs) (of_contest π k os)
 
-of_contests : (π : Preference) (k : ℕ) (cs : List Placed) → map {A = Numbered} (located_selection π) (flat_map numbered_selections_of (enumerate_from k cs)) ≡ located π Selection (flat_map selections_of_contest cs)
+of_contests : (π : Preference) (k : ℕ) (cs : List Placed) → map {A = Numbered} (located_selection π) (flat_map numbered_selections_of (enumerate_from k cs))
+    ≡ located π Selection (flat_map selections_of_contest cs)
 of_contests π k [] = refl
 of_contests π k (c ∷ cs) =
     map-append {A = Numbered} (located_selection π) (numbered_selections_of (k, c)) (flat_map numbered_selections_of (enumerate_from (k + 1) cs))
-    ∙ ap₂ ◌++◌ (of_contest π k (selections_of_contest c)) (of_contests π (k + 1) cs) ∙ sym (map-append (located_one π Selection) (selections_of_contest c) (flat_map selections_of_contest cs))
+    ∙ ap₂ ◌++◌ (of_contest π k (selections_of_contest c)) (of_contests π (k + 1) cs)
+    ∙ sym (map-append (located_one π Selection) (selections_of_contest c) (flat_map selections_of_contest cs))
 
 pub numbered_rising : (π : Preference) (t : Data) → IsStrictlySortedBy in_places (numbered_selections t)
 numbered_rising π t =
-    sorted_from_map {A = Numbered} (located_selection π) in_places apart (λ x y l. before_apart (located_selection π x) (located_selection π y) l) (numbered_selections t)
+    sorted_from_map {A = Numbered} (located_selection π) in_places apart (λ x y l. before_apart (located_selection π x) (located_selection π y) l)
+    (numbered_selections t)
     (subst (IsStrictlySortedBy apart) (sym (of_contests π 0 (contests t))) (family_apart π Selection t))
 
 -- ---- their positions
@@ -257,7 +275,8 @@ placed_of_contest : (k : ℕ) (os : List Placed) → map {A = Numbered} (λ s. s
 placed_of_contest k [] = refl
 placed_of_contest k (o ∷ os) = ap (λ xs. o ∷ xs) (placed_of_contest k os)
 
-pub placed_of_contests : (k : ℕ) (cs : List Placed) → map {A = Numbered} (λ s. s.1) (flat_map numbered_selections_of (enumerate_from k cs)) ≡ flat_map selections_of_contest cs
+pub placed_of_contests : (k : ℕ) (cs : List Placed) → map {A = Numbered} (λ s. s.1) (flat_map numbered_selections_of (enumerate_from k cs))
+    ≡ flat_map selections_of_contest cs
 placed_of_contests k [] = refl
 placed_of_contests k (c ∷ cs) =
     map-append {A = Numbered} (λ s. s.1) (numbered_selections_of (k, c)) (flat_map numbered_selections_of (enumerate_from (k + 1) cs))
@@ -320,7 +339,8 @@ numbered_in {A} k x (y ∷ xs) (inl e) = (k, inl (ap (λ z. (k, z)) e))
 numbered_in k x (y ∷ xs) (inr i) = let h = numbered_in (k + 1) x xs i in (h.0, inr h.1)
 
 -- all selections of a contest have one number
-pub with_number : (t : Data) (contest : Placed) → In contest (contests t) → (n : ℕ) × ((o : Placed) → In o (selections_of_contest contest) → In {A = Numbered} (n, o) (numbered_selections t))
+pub with_number : (t : Data) (contest : Placed) → In contest (contests t) → (n : ℕ)
+    × ((o : Placed) → In o (selections_of_contest contest) → In {A = Numbered} (n, o) (numbered_selections t))
 with_number t contest i =
     let h = numbered_in 0 contest (contests t) i in (
       h.0,
@@ -336,7 +356,8 @@ abbrev pub selections_told : Preference → Data → List Fault
 selections_told π t = names_told (name_of π t) [] (numbered_selections t)
 
 -- two selections of one number and one name
-pub repeats : (π : Preference) (t : Data) (one other : Numbered) (n : NameParts) → In {A = Numbered} one (numbered_selections t) → In {A = Numbered} other (numbered_selections t) → other.0 ≡ one.0
+pub repeats : (π : Preference) (t : Data) (one other : Numbered) (n : NameParts) → In {A = Numbered} one (numbered_selections t)
+    → In {A = Numbered} other (numbered_selections t) → other.0 ≡ one.0
     → name_of π t one.1.value ≡ Some n → name_of π t other.1.value ≡ Some n → IsBefore other.1 one.1 → RepeatsName π t one.1.place
 repeats π t one other n i j same named also before =
     let a = of_its_contest t one i in
@@ -356,8 +377,8 @@ repeats π t one other n i j same named also before =
       earlier_name = also;
     }
 
-twins : (π : Preference) (t : Data) (f : Fault) (told : ToldTwin (name_of π t) [] (numbered_selections t) f) → In {A = NumberedName} (told.one.0, told.parts) [] ⊎ HasEarlier (name_of π t) (numbered_selections t) told.one told.parts
-    → RepeatsName π t told.one.1.place
+twins : (π : Preference) (t : Data) (f : Fault) (told : ToldTwin (name_of π t) [] (numbered_selections t) f) → In {A = NumberedName} (told.one.0, told.parts) []
+    ⊎ HasEarlier (name_of π t) (numbered_selections t) told.one told.parts → RepeatsName π t told.one.1.place
 twins π t f told (inl h) = absurd h
 twins π t f told (inr (y, i, same, also, before)) = repeats π t told.one y told.parts told.there i same told.named also before
 
@@ -370,7 +391,8 @@ told_of_reason π t p TwinSelection h =
     let later = number.1 h.later (In-from_contains h.later (selections_of_contest h.contest) h.later_stands) in
     let earlier = number.1 h.earlier (In-from_contains h.earlier (selections_of_contest h.contest) h.earlier_stands) in
     subst (λ q. In (fault_at q TwinSelection) (selections_told π t)) (sym h.place)
-    (twin_told (name_of π t) [] (numbered_selections t) (number.0, h.later) h.name (numbered_rising π t) later h.later_name (inr ((number.0, h.earlier), earlier, refl, h.earlier_name, h.before)))
+    (twin_told (name_of π t) [] (numbered_selections t) (number.0, h.later) h.name (numbered_rising π t) later h.later_name
+    (inr ((number.0, h.earlier), earlier, refl, h.earlier_name, h.before)))
 told_of_reason π t p r h = absurd h
 
 pub selections_listed : (π : Preference) (t : Data) → ListsAll (SelectionFault π t) (selections_told π t)

@@ -1,6 +1,13 @@
 -- The ranks of keys are in the order of the keys, wherever objects of the family have the keys. The keys in the name of a
 -- selection are those of objects.
-use Rattle.erd_meaning.proofs.Common.{◌≡◌, ℕ, Bool, true, false, cond, List, [], ◌∷◌, map, is_some, slice_get, Some, None, codes, Option, option_map, position, find, option_and_then, option_copied, nat_cmp, is_eq, sym, refl, ap, ◌∙◌, subst, inl, inr, Bor, and_parts, and_from, tied_itself, on_total, slice_get-map, IsTotalOrder, options_total, AllByRecursion, cons_option, list_all, option_cmp, Data, as_str, Class, class, Family, family, In, entries_at, class_of_object, key_cmp, Preference, key_of, NameParts, family_chosen, RankedParts, rising_list, is_write_in, order_of_selection, label_of_selection, selection_role, lent_key_cmp, key_among, name_among, rank, number_of_key, is_of_family, those_of, is_keyed, keeps_id, Kept, same_key, key_cmp_total, rank_among, AreRanks, ranked_key, is_key_among, ranked_parts, ranked_name_among, has_keys_among, IsRanked, Key, cases_Bool, arith, and_then-Some, option_map-Some, some_from, in_at, name_in_class, keys_found, keys_of_selection}
+use Rattle.erd_meaning.proofs.Common.{◌≡◌, ℕ, Bool, true, false, cond, List, [], ◌∷◌, map, is_some, slice_get, Some, None, codes, Option, option_map, position}
+use Rattle.erd_meaning.proofs.Common.{find, option_and_then, option_copied, nat_cmp, is_eq, sym, refl, ap, ◌∙◌, subst, inl, inr, Bor, and_parts, and_from}
+use Rattle.erd_meaning.proofs.Common.{tied_itself, on_total, slice_get-map, IsTotalOrder, options_total, AllByRecursion, cons_option, list_all, option_cmp}
+use Rattle.erd_meaning.proofs.Common.{Data, as_str, Class, class, Family, family, In, entries_at, class_of_object, key_cmp, Preference, key_of, NameParts}
+use Rattle.erd_meaning.proofs.Common.{family_chosen, RankedParts, rising_list, is_write_in, order_of_selection, label_of_selection, selection_role}
+use Rattle.erd_meaning.proofs.Common.{lent_key_cmp, key_among, name_among, rank, number_of_key, is_of_family, those_of, is_keyed, keeps_id, Kept, same_key}
+use Rattle.erd_meaning.proofs.Common.{key_cmp_total, rank_among, AreRanks, ranked_key, is_key_among, ranked_parts, ranked_name_among, has_keys_among, IsRanked}
+use Rattle.erd_meaning.proofs.Common.{Key, cases_Bool, arith, and_then-Some, option_map-Some, some_from, in_at, name_in_class, keys_found, keys_of_selection}
 use Rattle.erd_meaning.proofs.finding.OneObject.{ranked, hit, missed}
 use Rattle.erd_meaning.proofs.identity.IdentityFaults.{same_key_from}
 use Rattle.erd_text.proofs.RisingOrders.{all_rising, rising_alike}
@@ -25,7 +32,11 @@ each_passes test (x ∷ xs) h = let both = and_parts (test x) (list_all test xs)
 
 found_in : {A : Type 0} (test : A → Bool) (xs : List A) (x : A) → find test xs ≡ Some x → In x xs
 found_in test [] x e = cc
-found_in test (y ∷ ys) x e = elim (cases_Bool (test y)) [ inl is ↦ (let h : Some y ≡ Some x = rw is at e in let same : y ≡ x = cc in inl same) | inr is ↦ inr (found_in test ys x (rw is at e)) ]
+found_in test (y ∷ ys) x e =
+    elim (cases_Bool (test y)) [
+      | inl is ↦ (let h : Some y ≡ Some x = rw is at e in let same : y ≡ x = cc in inl same)
+      | inr is ↦ inr (found_in test ys x (rw is at e))
+    ]
 
 module _ (ks : List Kept) (f : Family) where
   -- ---- keys of objects
@@ -63,10 +74,12 @@ module _ (ks : List Kept) (f : Family) where
   rank_as_key k l has other = counted_as_key (λ (o : Kept). o.key) (those_of f ks) k l (its_key k has) (its_key l other)
 
   -- keys with their ranks, sorted by these
-  pub ranked_in_order : (keys : List Key) → AllByRecursion IsKeyAmong keys → rising_list (λ a b. nat_cmp a.0 b.0) (map (ranked_key ks f) keys) ≡ map (ranked_key ks f) (rising_list key_cmp keys)
+  pub ranked_in_order : (keys : List Key) → AllByRecursion IsKeyAmong keys → rising_list (λ a b. nat_cmp a.0 b.0) (map (ranked_key ks f) keys)
+      ≡ map (ranked_key ks f) (rising_list key_cmp keys)
   ranked_in_order keys known =
       sym (rising_list_map (ranked_key ks f) (λ a b. nat_cmp a.0 b.0) keys)
-      ∙ ap (map (ranked_key ks f)) (rising_alike IsKeyAmong (λ k l. nat_cmp (rank_among ks f (Some k)) (rank_among ks f (Some l))) key_cmp rank_as_key keys known)
+      ∙ ap (map (ranked_key ks f)) (rising_alike IsKeyAmong (λ k l. nat_cmp (rank_among ks f (Some k)) (rank_among ks f (Some l))) key_cmp
+      rank_as_key keys known)
 
   -- the rank at the position of an object with a key
   pub rank_there : (key : Key) (i : ℕ) (ranks : List ℕ) → AreRanks ks f ranks → option_and_then (λ k. k.key) (slice_get (those_of f ks) i) ≡ Some key
@@ -103,7 +116,8 @@ module _ (ks : List Kept) (f : Family) where
       of k true there is h = key_there key k there is h
       of k false there is h = cc
 
-      at : (o : Option Kept) → find (keeps_id id) ks ≡ o → option_and_then (λ (k : Kept). k.key) (option_and_then (λ k. cond (is_of_family f k) (Some k) None) o) ≡ Some key → IsKeyAmong key
+      at : (o : Option Kept) → find (keeps_id id) ks ≡ o → option_and_then (λ (k : Kept). k.key)
+          (option_and_then (λ k. cond (is_of_family f k) (Some k) None) o) ≡ Some key → IsKeyAmong key
       at None is h = cc
       at (Some k) is h = of k (is_of_family f k) (found_in (keeps_id id) ks k is) refl h
 
@@ -111,7 +125,8 @@ module _ (ks : List Kept) (f : Family) where
 
 -- the name of a selection of this class with these keys
 abbrev pub name_with : Preference → Class → Data → List Key → NameParts
-name_with π c d keys = record { class = c; keys = keys; write_in = is_write_in c d; order = order_of_selection d; label = label_of_selection c d; identifier = key_of π d }
+name_with π c d keys =
+    record { class = c; keys = keys; write_in = is_write_in c d; order = order_of_selection d; label = label_of_selection c d; identifier = key_of π d }
 
 -- what holds of each key that references lead to holds of each key that a list of references leads to
 module _ (P : Key → Type 0) (key : List ℕ → Option Key) (holds : (id : List ℕ) (k : Key) → key id ≡ Some k → P k) where
@@ -142,13 +157,14 @@ module _ (ks : List Kept) where
   pub made_ranked : (π : Preference) (d : Data) (n : NameParts) → name_among π ks d ≡ Some n → IsRanked ks (ranked_parts ks n)
   made_ranked π d n e =
       let r = option_map-Some (λ c. name_in_class π (key_among ks) c d) (class_of_object selection_role d) n e in
-      let known = all_pass (is_key_among ks (family_chosen r.0)) (name_in_class π (key_among ks) r.0 d).keys (keys_in_name (IsKeyAmong ks) (key_among ks) (referred_known ks) π r.0 d) in
+      let known = all_pass (is_key_among ks (family_chosen r.0)) (name_in_class π (key_among ks) r.0 d).keys
+      (keys_in_name (IsKeyAmong ks) (key_among ks) (referred_known ks) π r.0 d) in
       record { ranks = refl; known = sym (ap (has_keys_among ks) r.2) ∙ known }
 
   -- the name that is made of a selection, with the ranks of its keys
   pub ranked_selection : (π : Preference) (d : Data) (c : Class) (chosen : List (ℕ × Key)) (r : RankedParts) → class_of_object selection_role d ≡ Some c
-      → chosen ≡ map (ranked_key ks (family_chosen c)) (rising_list key_cmp (keys_of_selection (key_among ks) c d)) → r.name ≡ name_with π c d (map (λ x. x.1) chosen) → r.ranks ≡ map (λ x. x.0) chosen
-      → Some r ≡ ranked_name_among π ks d
+      → chosen ≡ map (ranked_key ks (family_chosen c)) (rising_list key_cmp (keys_of_selection (key_among ks) c d))
+      → r.name ≡ name_with π c d (map (λ x. x.1) chosen) → r.ranks ≡ map (λ x. x.0) chosen → Some r ≡ ranked_name_among π ks d
   ranked_selection π d c chosen r is are name ranks =
       let keys = rising_list key_cmp (keys_of_selection (key_among ks) c d) in
       let f = family_chosen c in

@@ -1,6 +1,13 @@
 -- The names of the selections of a report with the ranks of their keys: the keys are those of objects, and the ranks are in
 -- their order.
-use Rattle.erd_meaning.proofs.Common.{◌≡◌, ℕ, List, Some, None, Option, option_and_then, refl, ap, ◌∙◌, subst, AllByRecursion, Data, Class, class, Family, class_of_object, key_cmp, Preference, key_of, NameParts, objects, family_chosen, key_named, name_in_class, selection_role, name_of, HasKeysIn, IsKeyIn, Key, and_then-Some, option_map-Some, slice_get, option_map, nat_cmp, Equal, sym, ap₂, slice_cmp, option_cmp, In, In-from_contains, In-all, rank_of, Placed, numbered_selections, RankedParts, ranked_name, IsRankedIn, class_cmp, name_cmp, classes_exact, true, cond, map, length, filter, is_lt, slice_get-map, map-map, view, Value, has_keys, key_of_family_object, key_in, rising_keys, PlacedName, ranked_selection_in, rising_list, positioned, those_of, Kept, kept, rank_among, rising_keys_among, ranked_parts, names_of, AllAreRanked, IsRanked, IsResolved, NumberedName, shown, Object, owner, contains_from_In, in_at, ranked_name_cmp}
+use Rattle.erd_meaning.proofs.Common.{◌≡◌, ℕ, List, Some, None, Option, option_and_then, refl, ap, ◌∙◌, subst, AllByRecursion, Data, Class, class, Family}
+use Rattle.erd_meaning.proofs.Common.{class_of_object, key_cmp, Preference, key_of, NameParts, objects, family_chosen, key_named, name_in_class, selection_role}
+use Rattle.erd_meaning.proofs.Common.{name_of, HasKeysIn, IsKeyIn, Key, and_then-Some, option_map-Some, slice_get, option_map, nat_cmp, Equal, sym, ap₂}
+use Rattle.erd_meaning.proofs.Common.{slice_cmp, option_cmp, In, In-from_contains, In-all, rank_of, Placed, numbered_selections, RankedParts, ranked_name}
+use Rattle.erd_meaning.proofs.Common.{IsRankedIn, class_cmp, name_cmp, classes_exact, true, cond, map, length, filter, is_lt, slice_get-map, map-map, view}
+use Rattle.erd_meaning.proofs.Common.{Value, has_keys, key_of_family_object, key_in, rising_keys, PlacedName, ranked_selection_in, rising_list, positioned}
+use Rattle.erd_meaning.proofs.Common.{those_of, Kept, kept, rank_among, rising_keys_among, ranked_parts, names_of, AllAreRanked, IsRanked, IsResolved}
+use Rattle.erd_meaning.proofs.Common.{NumberedName, shown, Object, owner, contains_from_In, in_at, ranked_name_cmp}
 use Rattle.erd_meaning.proofs.accepted.Standing.{owned_by, has_identifier}
 use Rattle.erd_text.proofs.RisingOrders.{count_map}
 use Rattle.erd_meaning.proofs.orders.KeyRanks.{IsKeyOf, counted_as_key}
@@ -58,8 +65,8 @@ module _ (π : Preference) (t : Data) where
   pub ranked_names_alike : (d e : Data) → option_cmp ranked_name_cmp (ranked_name_of d) (ranked_name_of e) ≡ option_cmp name_cmp (name_of π t d) (name_of π t e)
   ranked_names_alike d e = at (class_of_object selection_role d) (class_of_object selection_role e)
     where
-      at : (c b : Option Class)
-          → option_cmp ranked_name_cmp (option_map (ranked_name π t) (option_map (λ c. name_in c d) c)) (option_map (ranked_name π t) (option_map (λ b. name_in b e) b))
+      at : (c b : Option Class) → option_cmp ranked_name_cmp (option_map (ranked_name π t) (option_map (λ c. name_in c d) c))
+          (option_map (ranked_name π t) (option_map (λ b. name_in b e) b))
           ≡ option_cmp name_cmp (option_map (λ c. name_in c d) c) (option_map (λ b. name_in b e) b)
       at None None = refl
       at None (Some b) = refl
@@ -78,14 +85,20 @@ module _ (π : Preference) (t : Data) where
   named : (r : RankedParts) → IsRankedIn π t r → IsNamed r
   named r h = at (slice_get (numbered_selections t) h.index) h.is
     where
-      by : (s : ℕ × Placed) (o : Option NameParts) → name_of π t s.1.value ≡ o → option_map {U = ℕ × RankedParts} (λ (x : ℕ × NameParts). (x.0, ranked_name π t x.1)) (option_map {U = ℕ × NameParts} (λ n. (s.0, n)) o) ≡ Some (h.contest, r) → IsNamed r
+      by : (s : ℕ × Placed) (o : Option NameParts) → name_of π t s.1.value ≡ o → option_map {U = ℕ × RankedParts}
+          (λ (x : ℕ × NameParts). (x.0, ranked_name π t x.1)) (option_map {U = ℕ × NameParts} (λ n. (s.0, n)) o) ≡ Some (h.contest, r) → IsNamed r
       by s None is e = cc
       by s (Some n) is e =
           let whole : Some (ranked_name π t n) ≡ Some r = ap (option_map (λ (x : ℕ × RankedParts). x.1)) e in
           let same : ranked_name π t n ≡ r = cc in
-          record { selection = s.1.value; name = is ∙ ap (λ (q : RankedParts). Some q.name) same; ranks = sym same ∙ ap (λ (q : RankedParts). ranked_name π t q.name) same }
+          record {
+            selection = s.1.value;
+            name = is ∙ ap (λ (q : RankedParts). Some q.name) same;
+            ranks = sym same ∙ ap (λ (q : RankedParts). ranked_name π t q.name) same;
+          }
 
-      at : (o : Option (ℕ × Placed)) → option_map {U = ℕ × RankedParts} (λ (x : ℕ × NameParts). (x.0, ranked_name π t x.1)) (option_and_then (λ (s : ℕ × Placed). option_map {U = ℕ × NameParts} (λ n. (s.0, n)) (name_of π t s.1.value)) o) ≡ Some (h.contest, r) → IsNamed r
+      at : (o : Option (ℕ × Placed)) → option_map {U = ℕ × RankedParts} (λ (x : ℕ × NameParts). (x.0, ranked_name π t x.1))
+          (option_and_then (λ (s : ℕ × Placed). option_map {U = ℕ × NameParts} (λ n. (s.0, n)) (name_of π t s.1.value)) o) ≡ Some (h.contest, r) → IsNamed r
       at None e = cc
       at (Some s) e = by s (name_of π t s.1.value) refl e
 
@@ -122,32 +135,33 @@ module _ (π : Preference) (v : Value) (os : List Object) (names : List Numbered
 
   -- the rank of the object at a position
   pub rank_same_at : (f : Family) → has_keys f ≡ true → (i : ℕ)
-      → option_map (λ (k : Kept). rank_among (map shown os) f k.key) (slice_get (those_of f (map shown os)) i) ≡ option_map (λ k. rank_of π (view v) f (Some k)) (key_in π f (view v) i)
+      → option_map (λ (k : Kept). rank_among (map shown os) f k.key) (slice_get (those_of f (map shown os)) i) ≡ option_map (λ k. rank_of π (view v) f (Some k))
+      (key_in π f (view v) i)
   rank_same_at f keyed i =
       ap (λ ks. option_map rank (slice_get ks i)) (those_shown π v os names f r)
-      ∙ ap (option_map rank) (slice_get-map (λ (o : Placed). kept π f o) (objects f (view v)) i)
-      ∙ at (slice_get (objects f (view v)) i) refl
+      ∙ ap (option_map rank) (slice_get-map (λ (o : Placed). kept π f o) (objects f (view v)) i) ∙ at (slice_get (objects f (view v)) i) refl
     where
       rank : Kept → ℕ
       rank k = rank_among (map shown os) f k.key
 
       at : (o : Option Placed) → slice_get (objects f (view v)) i ≡ o
-          → option_map rank (option_map (λ (o : Placed). kept π f o) o) ≡ option_map (λ k. rank_of π (view v) f (Some k)) (option_and_then (λ (o : Placed). key_of_family_object π f o.value) o)
+          → option_map rank (option_map (λ (o : Placed). kept π f o) o) ≡ option_map (λ k. rank_of π (view v) f (Some k))
+          (option_and_then (λ (o : Placed). key_of_family_object π f o.value) o)
       at None is = refl
       at (Some o) is =
           let its = has_identifier π (view v) r.identified f o keyed ((in_at (objects f (view v)) i o is)) in
           let same : key_of_family_object π f o.value ≡ Some its.0 = ap (λ b. cond b (key_of π o.value) None) keyed ∙ its.1 in
-          ap (λ key. Some (rank_among (map shown os) f key)) same ∙ ap Some (rank_same f keyed (Some its.0)) ∙ sym (ap (option_map (λ k. rank_of π (view v) f (Some k))) same)
+          ap (λ key. Some (rank_among (map shown os) f key)) same ∙ ap Some (rank_same f keyed (Some its.0))
+          ∙ sym (ap (option_map (λ k. rank_of π (view v) f (Some k))) same)
 
   ranked_same : (n : NameParts) → ranked_parts (map shown os) n ≡ ranked_name π (view v) n
   ranked_same n i = record { name = n; ranks = map (λ key. rank_same (family_chosen n.class) (chosen_keyed n.class) (Some key) i) n.keys }
 
 -- the name at a position, with its ranks
-pub ranked_there : (π : Preference) (v : Value) (os : List Object) (names : List PlacedName) → IsResolved π v os (names_of names) → AllAreRanked (map shown os) names → (i : ℕ)
-    → slice_get names i ≡ ranked_selection_in π (view v) i
+pub ranked_there : (π : Preference) (v : Value) (os : List Object) (names : List PlacedName) → IsResolved π v os (names_of names)
+    → AllAreRanked (map shown os) names → (i : ℕ) → slice_get names i ≡ ranked_selection_in π (view v) i
 ranked_there π v os names r are i =
-    at (slice_get names i) refl
-    ∙ ap (option_map whole) (sym (slice_get-map plain names i) ∙ r.named i)
+    at (slice_get names i) refl ∙ ap (option_map whole) (sym (slice_get-map plain names i) ∙ r.named i)
   where
     plain : PlacedName → NumberedName
     plain s = (s.0, s.1.name)

@@ -1,5 +1,13 @@
 -- The tests by which an index of names with ranks is asked are those of the names.
-use Rattle.erd_meaning.proofs.Common.{◌≡◌, ℕ, Bool, true, ◌&&◌, ◌∷◌, ◌++◌, ◌==◌, is_eq, ap, ◌∙◌, tied_itself, Equal-is, both_ways, NameParts, name_cmp, name_cmp_total, name_cmp_exact, NumberedName, is_selection_named, suc, ◌+◌, ◌<◌, ◌≤◌, false, cond, ◌||◌, List, [], map, length, get_or, drop, if◌then◌else◌, Some, position, flat_map, nat_cmp, Ordering, Equal, sym, refl, subst, ap₂, arith, and_parts, Decides-eqb, nat_cmp_total, lists_total, position_from-zero, length-map, at_drop_more, at_drop_all, exact_unsigned, slice_cmp, HashWrites, str, usize, list_all, list_any, position_from, eq_by_cmp, ordering_then, text_of_class, Class, Family, In, In-all, after_keys_writes, key_cmp, without_keys, numbered_parts, numbered_name_cmp, family_chosen, RankedParts, PlacedName, ranked_name_cmp, ranked_name_writes, class_cmp, Kept, classes_exact, rank_among, is_key_among, fed_rank, ranked_parts, has_keys_among, names_of, are_ranks_of, is_sought, AllAreRanked, IsRanked, is_taken, added_name, Key, and-false, cond_both}
+use Rattle.erd_meaning.proofs.Common.{◌≡◌, ℕ, Bool, true, ◌&&◌, ◌∷◌, ◌++◌, ◌==◌, is_eq, ap, ◌∙◌, tied_itself, Equal-is, both_ways, NameParts, name_cmp}
+use Rattle.erd_meaning.proofs.Common.{name_cmp_total, name_cmp_exact, NumberedName, is_selection_named, suc, ◌+◌, ◌<◌, ◌≤◌, false, cond, ◌||◌, List, [], map}
+use Rattle.erd_meaning.proofs.Common.{length, get_or, drop, if◌then◌else◌, Some, position, flat_map, nat_cmp, Ordering, Equal, sym, refl, subst, ap₂, arith}
+use Rattle.erd_meaning.proofs.Common.{and_parts, Decides-eqb, nat_cmp_total, lists_total, position_from-zero, length-map, at_drop_more, at_drop_all}
+use Rattle.erd_meaning.proofs.Common.{exact_unsigned, slice_cmp, HashWrites, str, usize, list_all, list_any, position_from, eq_by_cmp, ordering_then}
+use Rattle.erd_meaning.proofs.Common.{text_of_class, Class, Family, In, In-all, after_keys_writes, key_cmp, without_keys, numbered_parts, numbered_name_cmp}
+use Rattle.erd_meaning.proofs.Common.{family_chosen, RankedParts, PlacedName, ranked_name_cmp, ranked_name_writes, class_cmp, Kept, classes_exact, rank_among}
+use Rattle.erd_meaning.proofs.Common.{is_key_among, fed_rank, ranked_parts, has_keys_among, names_of, are_ranks_of, is_sought, AllAreRanked, IsRanked, is_taken}
+use Rattle.erd_meaning.proofs.Common.{added_name, Key, and-false, cond_both}
 use Rattle.erd_meaning.proofs.finding.Known.{number_swap}
 use Rattle.erd_meaning.specs.code.NumberedOrders.{numbered_as_named, numbers_as_keys}
 use Rattle.erd_meaning.specs.code.RankedOrders.{equal_ranked_alike}
@@ -24,7 +32,8 @@ name_test c n i s = number_swap c s.0 i && names_swap n s.1 i
 -- ---- one name and another
 
 -- the keys of a name are those of objects
-keys_known : (ks : List Kept) (c : Class) (keys : List Key) (k : Key) → list_all (is_key_among ks (family_chosen c)) keys ≡ true → In k keys → is_key_among ks (family_chosen c) k ≡ true
+keys_known : (ks : List Kept) (c : Class) (keys : List Key) (k : Key) → list_all (is_key_among ks (family_chosen c)) keys ≡ true → In k keys
+    → is_key_among ks (family_chosen c) k ≡ true
 keys_known ks c keys k all i = In-all (λ k. is_key_among ks (family_chosen c) k ≡ true) k keys (each_passes (is_key_among ks (family_chosen c)) keys all) i
 
 abbrev ranks_in : List Kept → Class → List Key → List ℕ
@@ -38,7 +47,8 @@ ranks_as_keys ks m n a b same = with_class n.class (sym (classes_exact m.class n
     with_class : (c : Class) → c ≡ m.class → list_all (is_key_among ks (family_chosen c)) n.keys ≡ true
         → slice_cmp nat_cmp (ranks_in ks m.class m.keys) (ranks_in ks c n.keys) ≡ slice_cmp key_cmp m.keys n.keys
     with_class c e known =
-        let known_too : list_all (is_key_among ks (family_chosen m.class)) n.keys ≡ true = subst (λ d. list_all (is_key_among ks (family_chosen d)) n.keys ≡ true) e known in
+        let known_too : list_all (is_key_among ks (family_chosen m.class)) n.keys ≡ true =
+        subst (λ d. list_all (is_key_among ks (family_chosen d)) n.keys ≡ true) e known in
         ap (λ d. slice_cmp nat_cmp (ranks_in ks m.class m.keys) (ranks_in ks d n.keys)) e
         ∙ numbers_as_keys (λ k. rank_among ks (family_chosen m.class) (Some k)) m.keys n.keys
         (λ k l i j. rank_as_key ks (family_chosen m.class) k l (keys_known ks m.class m.keys k a i) (keys_known ks m.class n.keys l known_too j))
@@ -61,7 +71,8 @@ equals_ranked c r s = (c == s.0) && eq_by_cmp ranked_name_cmp r s.1
 abbrev plain : PlacedName → NumberedName
 plain s = (s.0, s.1.name)
 
-ranked_test : (ks : List Kept) (c : ℕ) (r : RankedParts) (s : PlacedName) → IsRanked ks r → IsRanked ks s.1 → equals_ranked c r s ≡ is_selection_named c r.name (plain s)
+ranked_test : (ks : List Kept) (c : ℕ) (r : RankedParts) (s : PlacedName) → IsRanked ks r → IsRanked ks s.1 → equals_ranked c r s
+    ≡ is_selection_named c r.name (plain s)
 ranked_test ks c r s a b = ap (λ t. (c == s.0) && t) (ranked_equal ks r s.1 a b) ∙ ap (λ (test : NumberedName → Bool). test (plain s)) (name_test c r.name)
 
 -- ---- the names that were met
@@ -83,15 +94,19 @@ all_after ks (x ∷ names) s all a = (all.0, all_after ks names s all.1 a)
 abbrev pub inserted : ℕ → RankedParts → List PlacedName → List PlacedName
 inserted c r names = cond (list_any (equals_ranked c r) names) names (names ++ (c, r) ∷ [])
 
-pub inserted_names : (ks : List Kept) (c : ℕ) (r : RankedParts) (names : List PlacedName) → IsRanked ks r → AllAreRanked ks names → names_of (inserted c r names) ≡ added_name (names_of names) c r.name
-inserted_names ks c r names a all = at (list_any (equals_ranked c r) names) ∙ ap (λ b. cond b (names_of names) (names_of names ++ (c, r.name) ∷ [])) (any_ranked ks c r names a all)
+pub inserted_names : (ks : List Kept) (c : ℕ) (r : RankedParts) (names : List PlacedName) → IsRanked ks r → AllAreRanked ks names
+    → names_of (inserted c r names) ≡ added_name (names_of names) c r.name
+inserted_names ks c r names a all = at (list_any (equals_ranked c r) names) ∙ ap (λ b. cond b (names_of names) (names_of names ++ (c, r.name) ∷ []))
+    (any_ranked ks c r names a all)
   where
     at : (b : Bool) → names_of (cond b names (names ++ (c, r) ∷ [])) ≡ cond b (names_of names) (names_of names ++ (c, r.name) ∷ [])
     at true = refl
     at false = names_after names (c, r)
 
-pub inserted_ranked : (ks : List Kept) (c : ℕ) (r : RankedParts) (names : List PlacedName) → IsRanked ks r → AllAreRanked ks names → AllAreRanked ks (inserted c r names)
-inserted_ranked ks c r names a all = cond_both (list_any (equals_ranked c r) names) names (names ++ (c, r) ∷ []) (AllAreRanked ks) (λ _. all) (λ _. all_after ks names (c, r) all a)
+pub inserted_ranked : (ks : List Kept) (c : ℕ) (r : RankedParts) (names : List PlacedName) → IsRanked ks r → AllAreRanked ks names
+    → AllAreRanked ks (inserted c r names)
+inserted_ranked ks c r names a all = cond_both (list_any (equals_ranked c r) names) names (names ++ (c, r) ∷ []) (AllAreRanked ks) (λ _. all)
+    (λ _. all_after ks names (c, r) all a)
 
 -- ---- the name that is looked up
 
@@ -116,7 +131,8 @@ position_alike ks c n i [] all = refl
 position_alike ks c n i (s ∷ names) all =
     ap₂ (λ b o. cond b (Some i) o) (sought_test ks c n s all.0) (position_alike ks c n (i + 1) names all.1)
 
-pub position_sought : (ks : List Kept) (c : ℕ) (n : NameParts) (names : List PlacedName) → AllAreRanked ks names → position (is_sought ks c n) names ≡ position (is_selection_named c n) (names_of names)
+pub position_sought : (ks : List Kept) (c : ℕ) (n : NameParts) (names : List PlacedName) → AllAreRanked ks names → position (is_sought ks c n) names
+    ≡ position (is_selection_named c n) (names_of names)
 position_sought ks c n names all =
     position_from-zero (is_sought ks c n) names ∙ position_alike ks c n 0 names all ∙ sym (position_from-zero (is_selection_named c n) (names_of names))
 
@@ -144,20 +160,24 @@ module _ (ks : List Kept) (f : Family) where
         ∙ at_drop_more (λ (ws : List ℕ). are_ranks_of ks f (get_or keys i k ∷ drop (i + 1) keys) ws) ranks i 0 (omega (arith, low, many))
         ∙ ap (λ w. has_rank w (get_or ranks i 0) && left_at (i + 1)) (sym is)
 
-    pub next_left : (i : ℕ) (k : Key) (whole : Bool) → i < length keys → k ≡ get_or keys i k → has_rank k (get_or ranks i 0) ≡ true → left_at i ≡ whole → left_at (i + 1) ≡ whole
+    pub next_left : (i : ℕ) (k : Key) (whole : Bool) → i < length keys → k ≡ get_or keys i k → has_rank k (get_or ranks i 0) ≡ true → left_at i ≡ whole
+        → left_at (i + 1) ≡ whole
     next_left i k whole low is passes before = sym (one_left i k low is ∙ ap (λ b. b && left_at (i + 1)) passes) ∙ before
 
-    pub one_fails : (i : ℕ) (k : Key) (whole : Bool) → i < length keys → k ≡ get_or keys i k → has_rank k (get_or ranks i 0) ≡ false → left_at i ≡ whole → false ≡ whole
+    pub one_fails : (i : ℕ) (k : Key) (whole : Bool) → i < length keys → k ≡ get_or keys i k → has_rank k (get_or ranks i 0) ≡ false
+        → left_at i ≡ whole → false ≡ whole
     one_fails i k whole low is fails before = sym (one_left i k low is ∙ ap (λ b. b && left_at (i + 1)) fails) ∙ before
 
     pub all_pass_at : (i : ℕ) (whole : Bool) → length keys ≤ i → left_at i ≡ whole → true ≡ whole
     all_pass_at i whole over before =
-        sym (at_drop_all (λ (ws : List Key). are_ranks_of ks f ws (drop i ranks)) keys i over ∙ at_drop_all (λ (ws : List ℕ). are_ranks_of ks f [] ws) ranks i (omega (arith, over, many))) ∙ before
+        sym (at_drop_all (λ (ws : List Key). are_ranks_of ks f ws (drop i ranks)) keys i over ∙ at_drop_all (λ (ws : List ℕ). are_ranks_of ks f [] ws) ranks i
+        (omega (arith, over, many))) ∙ before
 
 -- ---- the test of a name that is looked up
 
 equal_numbers : (m n : ℕ) → (m == n) ≡ is_eq (nat_cmp m n)
-equal_numbers m n = both_ways (m == n) (is_eq (nat_cmp m n)) (λ e. ap (λ k. is_eq (nat_cmp m k)) (sym ((Decides-eqb m n).0 e)) ∙ ap is_eq (tied_itself nat_cmp_total m))
+equal_numbers m n = both_ways (m == n) (is_eq (nat_cmp m n))
+    (λ e. ap (λ k. is_eq (nat_cmp m k)) (sym ((Decides-eqb m n).0 e)) ∙ ap is_eq (tied_itself nat_cmp_total m))
     (λ e. (Decides-eqb m n).1 (exact_unsigned m n ((Equal-is (nat_cmp m n)).0 e)))
 
 is_eq_then : (p o : Ordering) → is_eq (ordering_then p o) ≡ (is_eq p && is_eq o)
@@ -174,13 +194,14 @@ ranks_told ks f [] (r ∷ ranks) = refl
 ranks_told ks f (k ∷ keys) [] = sym (and-false (is_key_among ks f k && list_all (is_key_among ks f) keys))
 ranks_told ks f (k ∷ keys) (r ∷ ranks) =
     ap₂ (λ a b. (is_key_among ks f k && a) && b) (equal_numbers (rank_among ks f (Some k)) r) (ranks_told ks f keys ranks)
-    ∙ one_each (is_key_among ks f k) (is_eq (nat_cmp (rank_among ks f (Some k)) r)) (list_all (is_key_among ks f) keys) (is_eq (slice_cmp nat_cmp (map (λ key. rank_among ks f (Some key)) keys) ranks))
+    ∙ one_each (is_key_among ks f k) (is_eq (nat_cmp (rank_among ks f (Some k)) r)) (list_all (is_key_among ks f) keys)
+    (is_eq (slice_cmp nat_cmp (map (λ key. rank_among ks f (Some key)) keys) ranks))
     ∙ ap (λ b. (is_key_among ks f k && list_all (is_key_among ks f) keys) && b)
     (sym (is_eq_then (nat_cmp (rank_among ks f (Some k)) r) (slice_cmp nat_cmp (map (λ key. rank_among ks f (Some key)) keys) ranks)))
 
 -- the parts of two names with numbers for keys
-parts_told : (m n : NameParts) (ks ls : List ℕ)
-    → is_eq (numbered_name_cmp (numbered_parts m ks) (numbered_parts n ls)) ≡ (is_eq (class_cmp m.class n.class) && (is_eq (slice_cmp nat_cmp ks ls) && is_eq (name_cmp (without_keys m) (without_keys n))))
+parts_told : (m n : NameParts) (ks ls : List ℕ) → is_eq (numbered_name_cmp (numbered_parts m ks) (numbered_parts n ls))
+    ≡ (is_eq (class_cmp m.class n.class) && (is_eq (slice_cmp nat_cmp ks ls) && is_eq (name_cmp (without_keys m) (without_keys n))))
 parts_told m n ks ls =
     is_eq_then (class_cmp m.class n.class) (ordering_then (slice_cmp nat_cmp ks ls) (name_cmp (without_keys m) (without_keys n)))
     ∙ ap (λ b. is_eq (class_cmp m.class n.class) && b) (is_eq_then (slice_cmp nat_cmp ks ls) (name_cmp (without_keys m) (without_keys n)))
@@ -198,15 +219,16 @@ sought_told ks n s =
     let r = is_eq (name_cmp (without_keys n) (without_keys s.name)) in
     let own : is_eq (slice_cmp nat_cmp s.ranks s.ranks) ≡ true = ap is_eq (tied_itself (lists_total nat_cmp_total) s.ranks) in
     ap₂ (λ x y. x && y) (ranks_told ks (family_chosen n.class) n.keys s.ranks) (parts_told n s.name s.ranks s.ranks ∙ ap (λ x. c && (x && r)) own)
-    ∙ in_turn (has_keys_among ks n) e c r
-    ∙ ap (λ x. has_keys_among ks n && x) (sym (parts_told n s.name (ranked_parts ks n).ranks s.ranks))
+    ∙ in_turn (has_keys_among ks n) e c r ∙ ap (λ x. has_keys_among ks n && x) (sym (parts_told n s.name (ranked_parts ks n).ranks s.ranks))
 
-pub sought_misses : (ks : List Kept) (n : NameParts) (s : RankedParts) → are_ranks_of ks (family_chosen n.class) n.keys s.ranks ≡ false → false ≡ (has_keys_among ks n && eq_by_cmp ranked_name_cmp (ranked_parts ks n) s)
+pub sought_misses : (ks : List Kept) (n : NameParts) (s : RankedParts) → are_ranks_of ks (family_chosen n.class) n.keys s.ranks ≡ false
+    → false ≡ (has_keys_among ks n && eq_by_cmp ranked_name_cmp (ranked_parts ks n) s)
 sought_misses ks n s none_has =
     ap (λ b. b && is_eq (numbered_name_cmp (numbered_parts n s.ranks) (numbered_parts s.name s.ranks))) (sym none_has) ∙ sought_told ks n s
 
 pub sought_hits : (ks : List Kept) (n : NameParts) (s : RankedParts) → are_ranks_of ks (family_chosen n.class) n.keys s.ranks ≡ true
-    → is_eq (numbered_name_cmp (numbered_parts n s.ranks) (numbered_parts s.name s.ranks)) ≡ (has_keys_among ks n && eq_by_cmp ranked_name_cmp (ranked_parts ks n) s)
+    → is_eq (numbered_name_cmp (numbered_parts n s.ranks) (numbered_parts s.name s.ranks))
+    ≡ (has_keys_among ks n && eq_by_cmp ranked_name_cmp (ranked_parts ks n) s)
 sought_hits ks n s are =
     ap (λ b. b && is_eq (numbered_name_cmp (numbered_parts n s.ranks) (numbered_parts s.name s.ranks))) (sym are) ∙ sought_told ks n s
 
@@ -222,11 +244,11 @@ fed_ranks ks f (k ∷ keys) known =
 -- the contest, the class, the number of keys, their ranks, and the other parts
 abbrev pub sought_writes : List Kept → ℕ → NameParts → HashWrites
 sought_writes ks c n =
-    usize c
-    ++ (str (text_of_class n.class)
+    usize c ++ (str (text_of_class n.class)
     ++ (usize (length n.keys) ++ (flat_map usize (map (fed_rank ks (family_chosen n.class)) n.keys) ++ after_keys_writes n)))
 
-pub sought_fed : (ks : List Kept) (c : ℕ) (n : NameParts) (s : PlacedName) → is_sought ks c n s ≡ true → sought_writes ks c n ≡ usize s.0 ++ ranked_name_writes s.1
+pub sought_fed : (ks : List Kept) (c : ℕ) (n : NameParts) (s : PlacedName) → is_sought ks c n s ≡ true → sought_writes ks c n ≡ usize s.0
+    ++ ranked_name_writes s.1
 sought_fed ks c n s e =
     let outer = and_parts (has_keys_among ks n) ((c == s.0) && eq_by_cmp ranked_name_cmp (ranked_parts ks n) s.1) e in
     let both = and_parts (c == s.0) (eq_by_cmp ranked_name_cmp (ranked_parts ks n) s.1) outer.1 in

@@ -1,8 +1,17 @@
 -- The names that the walk over the selections of a report meets and leaves are those of the definition.
-use Rattle.erd_meaning.proofs.Common.{◌≡◌, ℕ, true, cond, List, [], ◌∷◌, Some, None, codes, Option, option_map, find, option_and_then, refl, ap, ◌∙◌, Data, Class, class, Family, family, NoneOf, entries_at, class_of_object, has_keys, key_cmp, Preference, key_of, key_of_family_object, IdentityFault, Placed, id_of, has_id, rising_list, key_named, keys_of_selection, is_write_in, order_of_selection, label_of_selection, name_in_class, selection_role, name_of, key_among, name_among, is_of_family, keeps_id, Kept, kept_objects, inl, inr, cases_Bool, zero, suc, ◌<◌, ◌++◌, slice_get, flat_map, sym, cases_order, option_map_or, Selection, TwinSelection, object_in, ObjectIn, In, In-flat_map, ShapeFault, SelectionFault, selection_in, NameParts, contests, selections_of_contest, numbered_selections, AreNames, NumberedName, and_then-Some, length, subst, ListsAll, Fault, none_from_empty, names_of, is_taken, NamesMet, named_all, names_met, nil_from_length, objects, in_at, keys_found}
+use Rattle.erd_meaning.proofs.Common.{◌≡◌, ℕ, true, cond, List, [], ◌∷◌, Some, None, codes, Option, option_map, find, option_and_then, refl, ap, ◌∙◌, Data}
+use Rattle.erd_meaning.proofs.Common.{Class, class, Family, family, NoneOf, entries_at, class_of_object, has_keys, key_cmp, Preference, key_of}
+use Rattle.erd_meaning.proofs.Common.{key_of_family_object, IdentityFault, Placed, id_of, has_id, rising_list, key_named, keys_of_selection, is_write_in}
+use Rattle.erd_meaning.proofs.Common.{order_of_selection, label_of_selection, name_in_class, selection_role, name_of, key_among, name_among, is_of_family}
+use Rattle.erd_meaning.proofs.Common.{keeps_id, Kept, kept_objects, inl, inr, cases_Bool, zero, suc, ◌<◌, ◌++◌, slice_get, flat_map, sym, cases_order}
+use Rattle.erd_meaning.proofs.Common.{option_map_or, Selection, TwinSelection, object_in, ObjectIn, In, In-flat_map, ShapeFault, SelectionFault, selection_in}
+use Rattle.erd_meaning.proofs.Common.{NameParts, contests, selections_of_contest, numbered_selections, AreNames, NumberedName, and_then-Some, length, subst}
+use Rattle.erd_meaning.proofs.Common.{ListsAll, Fault, none_from_empty, names_of, is_taken, NamesMet, named_all, names_met, nil_from_length, objects, in_at}
+use Rattle.erd_meaning.proofs.Common.{keys_found}
 use Rattle.erd_meaning.proofs.finding.OneObject.{kept_of, those_kept, among_first, sorted_at}
 use Rattle.erd_meaning.proofs.references.ReferenceLookups.{find_both, named_same}
-use Rattle.erd_meaning.proofs.selections.NamesTold.{Numbered, in_places, name_list, numbered_rising, of_its_contest, repeats, all_faults, all_names, names_told, selections_listed, selections_told}
+use Rattle.erd_meaning.proofs.selections.NamesTold.{Numbered, in_places, name_list, numbered_rising, of_its_contest, repeats, all_faults, all_names, names_told}
+use Rattle.erd_meaning.proofs.selections.NamesTold.{selections_listed, selections_told}
 use Rattle.erd_meaning.proofs.accepted.Standing.{stands_of_shape}
 use Rattle.erd_meaning.specs.declared.names.selection_walk.SelectionWalk.{SelectionWalk}
 
@@ -12,25 +21,31 @@ keyed : (π : Preference) (f : Family) (d : Data) → has_keys f ≡ true → ke
 keyed π f d e = ap (λ b. cond b (key_of π d) None) e
 
 key_found : (π : Preference) (f : Family) (id : List ℕ) (os : List Placed) → has_keys f ≡ true
-    → option_and_then (λ k. k.key) (find (keeps_id id) (kept_of π f os)) ≡ option_and_then (key_of π) (option_map (λ o. o.value) (find (λ o. has_id id o.value) os))
+    → option_and_then (λ k. k.key) (find (keeps_id id) (kept_of π f os)) ≡ option_and_then (key_of π)
+    (option_map (λ o. o.value) (find (λ o. has_id id o.value) os))
 key_found π f id [] h = refl
-key_found π f id (o ∷ os) h = rw (named_same id (id_of o.value)) (elim (cases_Bool (has_id id o.value)) [ inl is ↦ rw is (keyed π f o.value h) | inr is ↦ rw is (key_found π f id os h) ])
+key_found π f id (o ∷ os) h =
+    rw (named_same id (id_of o.value)) (elim (cases_Bool (has_id id o.value)) [ inl is ↦ rw is (keyed π f o.value h) | inr is ↦ rw is (key_found π f id os h) ])
 
-key_same : (π : Preference) (t : Data) (f : Family) (id : List ℕ) → NoneOf (IdentityFault π t) → has_keys f ≡ true → key_among (kept_objects π t) f id ≡ key_named π t f id
+key_same : (π : Preference) (t : Data) (f : Family) (id : List ℕ) → NoneOf (IdentityFault π t) → has_keys f ≡ true
+    → key_among (kept_objects π t) f id ≡ key_named π t f id
 key_same π t f id none h =
-    ap (option_and_then (λ (k : Kept). k.key)) (among_first π t f id none ∙ find_both (is_of_family f) (keeps_id id) (kept_objects π t) ∙ ap (find (keeps_id id)) (those_kept π f t))
-    ∙ key_found π f id (objects f t) h
+    ap (option_and_then (λ (k : Kept). k.key)) (among_first π t f id none ∙ find_both (is_of_family f) (keeps_id id) (kept_objects π t)
+    ∙ ap (find (keeps_id id)) (those_kept π f t)) ∙ key_found π f id (objects f t) h
 
 -- ---- the keys of a selection
 
-selection_keys_same : (π : Preference) (t : Data) (c : Class) (d : Data) → NoneOf (IdentityFault π t) → keys_of_selection (key_among (kept_objects π t)) c d ≡ keys_of_selection (key_named π t) c d
-selection_keys_same π t class.CandidateSelection d none = λ i. keys_found (λ id. key_same π t family.Candidate id none refl i) (entries_at (codes "CandidateIds") d)
+selection_keys_same : (π : Preference) (t : Data) (c : Class) (d : Data) → NoneOf (IdentityFault π t) → keys_of_selection (key_among (kept_objects π t)) c d
+    ≡ keys_of_selection (key_named π t) c d
+selection_keys_same π t class.CandidateSelection d none = λ i. keys_found (λ id. key_same π t family.Candidate id none refl i)
+    (entries_at (codes "CandidateIds") d)
 selection_keys_same π t class.PartySelection d none = λ i. keys_found (λ id. key_same π t family.Party id none refl i) (entries_at (codes "PartyIds") d)
 selection_keys_same π t c d none = refl
 
 -- ---- names
 
-class_name_same : (π : Preference) (t : Data) (c : Class) (d : Data) → NoneOf (IdentityFault π t) → name_in_class π (key_among (kept_objects π t)) c d ≡ name_in_class π (key_named π t) c d
+class_name_same : (π : Preference) (t : Data) (c : Class) (d : Data) → NoneOf (IdentityFault π t) → name_in_class π (key_among (kept_objects π t)) c d
+    ≡ name_in_class π (key_named π t) c d
 class_name_same π t c d none =
     let keys_equal = selection_keys_same π t c d none in
     λ i. record {
@@ -51,7 +66,8 @@ name_same π t d none = at (class_of_object selection_role d)
 
 -- ---- each selection has a name
 
-selection_class : (t : Data) → NoneOf (ShapeFault t) → (o : Placed) → In o (objects Selection t) → (c : Class) × (class_of_object selection_role o.value ≡ Some c)
+selection_class : (t : Data) → NoneOf (ShapeFault t) → (o : Placed) → In o (objects Selection t) → (c : Class)
+    × (class_of_object selection_role o.value ≡ Some c)
 selection_class t none o i =
     let a : ObjectIn t selection_role o.value =
     object_in t none selection_role o.value (record { place = o.place; is = stands_of_shape t none Selection o i }) in
@@ -104,7 +120,8 @@ record SelectionAt (π : Preference) (t : Data) (i c : ℕ) (n : NameParts) : Ty
 
 parts_of : (c d : ℕ) (o : Option NameParts) (n : NameParts) → numbered_name c o ≡ Some (d, n) → (c ≡ d) × (o ≡ Some n)
 parts_of c d None n e = cc
-parts_of c d (Some m) n e = let parts : ◌≡◌ {A = NumberedName} (c, m) (d, n) = cc in (ap (λ (s : NumberedName). s.0) parts, ap (λ (s : NumberedName). Some s.1) parts)
+parts_of c d (Some m) n e = let parts : ◌≡◌ {A = NumberedName} (c, m) (d, n) =
+    cc in (ap (λ (s : NumberedName). s.0) parts, ap (λ (s : NumberedName). Some s.1) parts)
 
 selection_at : (π : Preference) (t : Data) (i c : ℕ) (n : NameParts) → selection_in π t i ≡ Some (c, n) → SelectionAt π t i c n
 selection_at π t i c n e =
@@ -114,10 +131,12 @@ selection_at π t i c n e =
 two_names : (π : Preference) (t : Data) (i j c : ℕ) (n : NameParts) → NoneOf (SelectionFault π t) → SelectionAt π t i c n → SelectionAt π t j c n → i < j → ⊥
 two_names π t i j c n none a b less =
     none b.one.1.place TwinSelection
-    (repeats π t b.one a.one n (in_at {A = Numbered} (numbered_selections t) j b.one b.at) (in_at {A = Numbered} (numbered_selections t) i a.one a.at) (a.number ∙ sym b.number) b.named a.named
+    (repeats π t b.one a.one n (in_at {A = Numbered} (numbered_selections t) j b.one b.at) (in_at {A = Numbered} (numbered_selections t) i a.one a.at)
+    (a.number ∙ sym b.number) b.named a.named
     (sorted_at {A = Numbered} in_places (numbered_selections t) i j a.one b.one (numbered_rising π t) less a.at b.at))
 
-pub one_selection : (π : Preference) (t : Data) (c : ℕ) (n : NameParts) (i j : ℕ) → NoneOf (SelectionFault π t) → selection_in π t i ≡ Some (c, n) → selection_in π t j ≡ Some (c, n) → i ≡ j
+pub one_selection : (π : Preference) (t : Data) (c : ℕ) (n : NameParts) (i j : ℕ) → NoneOf (SelectionFault π t) → selection_in π t i ≡ Some (c, n)
+    → selection_in π t j ≡ Some (c, n) → i ≡ j
 one_selection π t c n i j none e g =
     let a = selection_at π t i c n e in
     let b = selection_at π t j c n g in
@@ -137,7 +156,8 @@ pub record NamesWalked (π : Preference) (w v : SelectionWalk) (ks : List Kept) 
   pub identified : NoneOf (IdentityFault π t)
   pub met : names_met v ≡ named_all (name_among π ks) (names_met w) (numbered_selections t)
 
-met_by_name : (π : Preference) (w v : SelectionWalk) (ks : List Kept) (t : Data) → NamesWalked π w v ks t → names_met v ≡ named_all (name_of π t) (names_met w) (numbered_selections t)
+met_by_name : (π : Preference) (w v : SelectionWalk) (ks : List Kept) (t : Data) → NamesWalked π w v ks t → names_met v ≡ named_all (name_of π t) (names_met w)
+    (numbered_selections t)
 met_by_name π w v ks t h =
     let same : name_among π (kept_objects π t) ≡ name_of π t = λ i d. name_same π t d h.identified i in
     h.met ∙ ap (λ (name : Data → Option NameParts). named_all name (names_met w) (numbered_selections t)) (ap (name_among π) h.kept ∙ same)
@@ -160,8 +180,10 @@ pub names_left : (π : Preference) (w v : SelectionWalk) (ks : List Kept) (t : D
     → (fs : List Fault) → fs ≡ v.faults.items → length fs ≡ 0 → AreNames π t (names_of v.names.keys)
 names_left π w v ks t h none fs e empty = subst (AreNames π t) (sym (walked_names π w v ks t h (sym e ∙ nil_from_length fs empty))) (names_listed π t none)
 
-pub twins_left : (π : Preference) (w v : SelectionWalk) (ks : List Kept) (t : Data) → NamesWalked π w v ks t → (fs : List Fault) → fs ≡ v.faults.items → ListsAll (SelectionFault π t) fs
+pub twins_left : (π : Preference) (w v : SelectionWalk) (ks : List Kept) (t : Data) → NamesWalked π w v ks t → (fs : List Fault) → fs ≡ v.faults.items
+    → ListsAll (SelectionFault π t) fs
 twins_left π w v ks t h fs e = subst (ListsAll (SelectionFault π t)) (sym (e ∙ walked_faults π w v ks t h)) (selections_listed π t)
 
-pub no_twin_left : (π : Preference) (w v : SelectionWalk) (ks : List Kept) (t : Data) → NamesWalked π w v ks t → (fs : List Fault) → fs ≡ v.faults.items → length fs ≡ 0 → NoneOf (SelectionFault π t)
+pub no_twin_left : (π : Preference) (w v : SelectionWalk) (ks : List Kept) (t : Data) → NamesWalked π w v ks t → (fs : List Fault) → fs ≡ v.faults.items
+    → length fs ≡ 0 → NoneOf (SelectionFault π t)
 no_twin_left π w v ks t h fs e empty = none_from_empty (SelectionFault π t) fs (twins_left π w v ks t h fs e) empty

@@ -27,7 +27,8 @@ abbrev pub is_salted_owned : Salt → Family × Key → Salted (Family × Key) �
 is_salted_owned salt a k = (salted_number salt (key_writes a.1) == k.number) && same_owned a k.key
 
 -- Each index answers what a search among the objects finds.
-pub record IsIndexed (ks : List Kept) (places : Family → List ℕ) (before : List ℕ) (by_id : List ℕ → Option (Family × ℕ)) (by_key : Family → Key → Option ℕ) : Type 0 where
+pub record IsIndexed (ks : List Kept) (places : Family → List ℕ) (before : List ℕ) (by_id : List ℕ → Option (Family × ℕ))
+    (by_key : Family → Key → Option ℕ) : Type 0 where
   pub places_are : (f : Family) → places f ≡ places_from f 0 ks
   pub contests_are : before ≡ contests_before 0 ks
   pub ids_are : (id : List ℕ) → by_id id ≡ number_of_id ks id

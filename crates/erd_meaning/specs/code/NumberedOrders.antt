@@ -44,8 +44,7 @@ after_keys_cmp a b =
     (option_cmp key_cmp a.identifier b.identifier)))
 
 -- names without keys are told apart by the parts after the keys if their classes are equal
-pub by_later_parts : (m n : NameParts) (numbers : Ordering)
-    → ordering_then (class_cmp m.class n.class) (ordering_then numbers (after_keys_cmp m n))
+pub by_later_parts : (m n : NameParts) (numbers : Ordering) → ordering_then (class_cmp m.class n.class) (ordering_then numbers (after_keys_cmp m n))
     ≡ ordering_then (class_cmp m.class n.class) (ordering_then numbers (name_cmp (without_keys m) (without_keys n)))
 by_later_parts m n numbers = at (class_cmp m.class n.class) refl
   where
@@ -56,7 +55,8 @@ by_later_parts m n numbers = at (class_cmp m.class n.class) refl
     at Greater is = refl
 
 -- numbers in the order of keys compare as the keys do
-pub numbers_as_keys : (number : Key → ℕ) (ks ls : List Key) → ((k l : Key) → In k ks → In l ls → nat_cmp (number k) (number l) ≡ key_cmp k l) → slice_cmp nat_cmp (map number ks) (map number ls) ≡ slice_cmp key_cmp ks ls
+pub numbers_as_keys : (number : Key → ℕ) (ks ls : List Key) → ((k l : Key) → In k ks → In l ls → nat_cmp (number k) (number l) ≡ key_cmp k l)
+    → slice_cmp nat_cmp (map number ks) (map number ls) ≡ slice_cmp key_cmp ks ls
 numbers_as_keys number [] [] same = refl
 numbers_as_keys number [] (l ∷ ls) same = refl
 numbers_as_keys number (k ∷ ks) [] same = refl
@@ -68,8 +68,8 @@ pub numbered_as_named : (m n : NameParts) (ks ls : List ℕ) → (class_cmp m.cl
     → numbered_name_cmp (numbered_parts m ks) (numbered_parts n ls) ≡ name_cmp m n
 numbered_as_named m n ks ls same = sym (by_later_parts m n (slice_cmp nat_cmp ks ls)) ∙ at (class_cmp m.class n.class) refl
   where
-    at : (o : Ordering) → class_cmp m.class n.class ≡ o
-        → ordering_then o (ordering_then (slice_cmp nat_cmp ks ls) (after_keys_cmp m n)) ≡ ordering_then o (ordering_then (slice_cmp key_cmp m.keys n.keys) (after_keys_cmp m n))
+    at : (o : Ordering) → class_cmp m.class n.class ≡ o → ordering_then o (ordering_then (slice_cmp nat_cmp ks ls) (after_keys_cmp m n))
+        ≡ ordering_then o (ordering_then (slice_cmp key_cmp m.keys n.keys) (after_keys_cmp m n))
     at Less is = refl
     at Equal is = ap (λ o. ordering_then o (after_keys_cmp m n)) (same is)
     at Greater is = refl

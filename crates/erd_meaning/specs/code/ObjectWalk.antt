@@ -78,8 +78,7 @@ election_located π needed e = located_election π needed e ∷ inside_election 
 -- The objects of a report that are outside its elections.
 abbrev pub shared_located : Preference → Placed → List Located
 shared_located π r =
-    located π family.Unit (placed_entries (codes "GpUnit") r)
-    ++ (located π family.Header (placed_entries (codes "Header") r)
+    located π family.Unit (placed_entries (codes "GpUnit") r) ++ (located π family.Header (placed_entries (codes "Header") r)
     ++ (located π family.Office (placed_entries (codes "Office") r)
     ++ (located π family.Party (placed_entries (codes "Party") r) ++ located π family.Person (placed_entries (codes "Person") r))))
 

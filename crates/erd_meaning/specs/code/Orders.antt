@@ -17,7 +17,8 @@ use Rattle.erd_meaning.specs.Keys.{key_cmp}
 use Rattle.erd_meaning.specs.declared.keys.key.Key.{Key}
 
 pub key_cmp_total : IsTotalOrder key_cmp
-key_cmp_total = then_total (on_total (λ k. k.kind) nat_list_cmp_total) (then_total (on_total (λ k. k.other) nat_list_cmp_total) (on_total (λ k. k.value) nat_list_cmp_total))
+key_cmp_total = then_total (on_total (λ k. k.kind) nat_list_cmp_total)
+    (then_total (on_total (λ k. k.other) nat_list_cmp_total) (on_total (λ k. k.value) nat_list_cmp_total))
 
 pub key_cmp_exact : CmpEqualImpliesEq key_cmp
 key_cmp_exact k l e =
@@ -77,7 +78,14 @@ name_cmp_exact m n e =
     let order_same = options_exact int_cmp exact_signed m.order n.order d.0 in
     let label_same = options_exact text_cmp exact_bytes m.label n.label f.0 in
     let identifier_same = options_exact key_cmp key_cmp_exact m.identifier n.identifier f.1 in
-    λ i. record { class = class_same i; keys = keys_same i; write_in = write_in_same i; order = order_same i; label = label_same i; identifier = identifier_same i }
+    λ i. record {
+      class = class_same i;
+      keys = keys_same i;
+      write_in = write_in_same i;
+      order = order_same i;
+      label = label_same i;
+      identifier = identifier_same i;
+    }
 
 -- what is made of a key is the same of an equal one
 pub equal_keys_alike : {B : Type 0} (f : Key → B) (k l : Key) → eq_by_cmp key_cmp k l ≡ true → f k ≡ f l

@@ -19,5 +19,6 @@ pub record IsSalted (start : DefaultHasher) (x : Indexes) : Type 0 where
 
 -- There is exactly one entry, and it has the objects, the names and the elections of the accepted report.
 abbrev pub AreResolved : Preference → Value → List Indexes → Type 0
-AreResolved π tree (x ∷ []) = IsResolved π tree x.objects.objects (names_of x.names.keys) × AllAreRanked (map shown x.objects.objects) x.names.keys × AreElections π tree x.elections × IsSalted (report_start π (view tree)) x
+AreResolved π tree (x ∷ []) = IsResolved π tree x.objects.objects (names_of x.names.keys) × AllAreRanked (map shown x.objects.objects) x.names.keys
+    × AreElections π tree x.elections × IsSalted (report_start π (view tree)) x
 AreResolved π tree xs = ⊥

@@ -1,5 +1,6 @@
 ghost use Rattle.std.specs.Prelude.{◌≡◌, false, List, map, IfOk};
-ghost use Rattle.erd_meaning.specs.Words.{nat_cmp, view, has_float, key_cmp, family_chosen, is_write_in, keys_found, keys_of_selection, label_of_selection, order_of_selection, rising_list};
+ghost use Rattle.erd_meaning.specs.Words.{nat_cmp, view, has_float, key_cmp, family_chosen, is_write_in, keys_found, keys_of_selection, label_of_selection};
+ghost use Rattle.erd_meaning.specs.Words.{order_of_selection, rising_list};
 ghost use Rattle.erd_meaning.specs.code.ObjectLookups.{key_among};
 ghost use Rattle.erd_meaning.specs.code.ObjectWalk.{Kept};
 ghost use Rattle.erd_meaning.specs.code.RanksAmong.{ranked_key, ranked_name_among};

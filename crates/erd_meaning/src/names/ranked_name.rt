@@ -1,5 +1,6 @@
 ghost use Rattle.std.specs.Prelude.{◌≡◌};
-ghost use Rattle.erd_meaning.specs.Words.{Data, Preference, NameParts, IsRankedIn, family_chosen, ranked_name_cmp, name_cmp, eq_by_cmp_equiv, partial_equiv_from_equiv, eq_by_cmp, ranked_name_writes};
+ghost use Rattle.erd_meaning.specs.Words.{Data, Preference, NameParts, IsRankedIn, family_chosen, ranked_name_cmp, name_cmp, eq_by_cmp_equiv};
+ghost use Rattle.erd_meaning.specs.Words.{partial_equiv_from_equiv, eq_by_cmp, ranked_name_writes};
 ghost use Rattle.erd_meaning.specs.code.RankedOrders.{ranked_name_cmp_total, equal_ranked_alike};
 
 use crate::names::selection_name::{SelectionName, compare_numbered};

@@ -1,6 +1,7 @@
 //! The name of a selection.
 ghost use Rattle.std.specs.Prelude.{◌≡◌, IfOk, fold, length, option_copied, option_map, refl, slice_get};
-ghost use Rattle.erd_meaning.specs.Words.{eq_by_cmp, name_cmp, after_keys_writes, numbered_name_cmp, numbered_name_writes, numbered_parts, eq_by_cmp_equiv, partial_equiv_from_equiv, partial_order_from_total, as_partial_cmp, name_writes};
+ghost use Rattle.erd_meaning.specs.Words.{eq_by_cmp, name_cmp, after_keys_writes, numbered_name_cmp, numbered_name_writes, numbered_parts, eq_by_cmp_equiv};
+ghost use Rattle.erd_meaning.specs.Words.{partial_equiv_from_equiv, partial_order_from_total, as_partial_cmp, name_writes};
 ghost use Rattle.erd_meaning.specs.code.NumberedOrders.{after_keys_cmp};
 ghost use Rattle.erd_meaning.specs.code.Orders.{name_cmp_total, equal_names_alike, name_cmp_exact};
 

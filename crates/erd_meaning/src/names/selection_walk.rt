@@ -91,7 +91,8 @@ fn meet_contest(
     requires whole { has_float (view contest.now) ≡ false }
     requires ranked { AllAreRanked (map shown objects.now.objects) walk.old.names.keys }
     ensures met { IfOk result (λ _. names_met walk.new
-        ≡ named_all (name_among keys.now (map shown objects.now.objects)) (names_met walk.old) (numbered_selections_of (number, placed_at path.now contest.now))) }
+        ≡ named_all (name_among keys.now (map shown objects.now.objects)) (names_met walk.old)
+        (numbered_selections_of (number, placed_at path.now contest.now))) }
     ensures ranked { IfOk result (λ _. AllAreRanked (map shown objects.now.objects) walk.new.names.keys) }
     ensures start { IfOk result (λ _. walk.new.names.start ≡ walk.old.names.start) }
 {

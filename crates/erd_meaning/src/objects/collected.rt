@@ -115,7 +115,8 @@ fn collect_contests<'a>(
     found: &mut Vec<Found<'a>>,
 ) -> Result<(), AllocError>
     ensures { IfOk result (λ _. collected_in found.new ≡ collected_in found.old
-        ++ flat_map (contest_located keys.now) (placed_entries (codes "Contest") (record { place = election_place spot.election; value = view election.now }))) }
+        ++ flat_map (contest_located keys.now) (placed_entries (codes "Contest")
+        (record { place = election_place spot.election; value = view election.now }))) }
 {
     for (index, contest) in entries_at(election, "Contest").iter().enumerate() {
         let of_contest = Spot {

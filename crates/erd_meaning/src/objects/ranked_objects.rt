@@ -68,7 +68,8 @@ impl<'a> RankedObjects<'a> {
     /// family with lesser keys.
     pub(crate) fn rank_at(&self, family: Family, position: usize) -> Option<usize>
         requires keyed { has_keys family ≡ true }
-        ensures { result ≡ option_map (λ k. rank_among (map shown self.now.objects) family k.key) (slice_get (those_of family (map shown self.now.objects)) position) }
+        ensures { result ≡ option_map (λ k. rank_among (map shown self.now.objects) family k.key)
+            (slice_get (those_of family (map shown self.now.objects)) position) }
     {
         self.orders.get(family).rank_at(position)
     }

@@ -4,7 +4,8 @@ ghost use Rattle.erd_index.specs.Salts.{fed, salt_start, start_of, text_writes, 
 ghost use Rattle.serde_json.specs.View.{view, items_view, members_view, number_view};
 ghost use Rattle.erd_meaning.specs.code.CollectedWalks.{found};
 ghost use Rattle.erd_meaning.specs.code.HashedMet.{hashed};
-ghost use Rattle.erd_meaning.specs.SaltWrites.{hashed_writes, items_writes, triple_writes, members_writes, number_writes, option_writes, parts_writes, value_writes, whole_selection};
+ghost use Rattle.erd_meaning.specs.SaltWrites.{hashed_writes, items_writes, triple_writes, members_writes, number_writes, option_writes, parts_writes};
+ghost use Rattle.erd_meaning.specs.SaltWrites.{value_writes, whole_selection};
 
 use crate::keys::triple::Triple;
 use crate::objects::collected::Found;

@@ -1,4 +1,5 @@
-ghost use Rattle.std.specs.Prelude.{◌≡◌, ◌==◌, ◌<◌, ◌+◌, ◌++◌, ◌∷◌, ℕ, List, [], length, map, option_and_then, option_map, slice_get, is_some, bytes_eq, false, true, OnOk, OnErr, IfOk, IfSome, if◌then◌else◌, Some, None, vec_len, vec_capacity, option_copied};
+ghost use Rattle.std.specs.Prelude.{◌≡◌, ◌==◌, ◌<◌, ◌+◌, ◌++◌, ◌∷◌, ℕ, List, [], length, map, option_and_then, option_map, slice_get, is_some, bytes_eq, false};
+ghost use Rattle.std.specs.Prelude.{true, OnOk, OnErr, IfOk, IfSome, if◌then◌else◌, Some, None, vec_len, vec_capacity, option_copied};
 ghost use Rattle.erd_index.specs.Salts.{start_of};
 ghost use Rattle.erd_meaning.specs.Words.{option_map_or, option_or, get_by, spare, Family, list_any, Key};
 ghost use Rattle.erd_meaning.specs.code.ObjectIndexes.{IsStart, contests_before, contests_noted, is_in_contest, number_among, number_of_id, number_of_key};
@@ -332,7 +333,8 @@ fn note_any_key<'a>(
     requires { 0 < spare keys.old }
     ensures known { result ≡ option_map_or (λ k. is_some (get_by (is_salted_owned salt.now (family, k)) keys.old)) key.entry false }
     ensures noted { (f : Family) (k : Key) → get_by (is_salted_owned salt.now (f, k)) keys.new
-        ≡ option_or (get_by (is_salted_owned salt.now (f, k)) keys.old) (option_map_or (λ l. if same_owned (f, k) (family, l) then Some number else None) key.entry None) }
+        ≡ option_or (get_by (is_salted_owned salt.now (f, k)) keys.old)
+        (option_map_or (λ l. if same_owned (f, k) (family, l) then Some number else None) key.entry None) }
 {
     match key {
         Some(key) => note_key(keys, salt, family, key, number),

@@ -24,7 +24,8 @@ impl<'b, 'a> ReferenceJudge<'b, 'a> {
         object: &Value,
         items: &[Value],
     ) -> Result<bool, AllocError>
-        ensures { IfOk result (λ clear. IsTrue clear → AreClear (map shown self.now.objects.now.objects) (view object.now) family is_set (items_view items.now)) }
+        ensures { IfOk result (λ clear. IsTrue clear → AreClear (map shown self.now.objects.now.objects) (view object.now) family is_set
+            (items_view items.now)) }
     {
         let mut positions = Vec::new(alloc);
         let mut home = None;

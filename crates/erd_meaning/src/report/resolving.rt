@@ -1,5 +1,6 @@
 ghost use Rattle.std.specs.Prelude.{◌≡◌, false, map, option_copied, None, IfOk, IfErr};
-ghost use Rattle.erd_meaning.specs.Words.{view, has_float, IsBounded, RefusedFor, IsFaultless, IsAccepted, IsFault, IdentityFault, SelectionFault, report_start};
+ghost use Rattle.erd_meaning.specs.Words.{view, has_float, IsBounded, RefusedFor, IsFaultless, IsAccepted, IsFault, IdentityFault, SelectionFault};
+ghost use Rattle.erd_meaning.specs.Words.{report_start};
 ghost use Rattle.erd_meaning.specs.code.Held.{AreSalted};
 ghost use Rattle.erd_meaning.specs.code.ObjectWalk.{election_keys, kept_objects};
 ghost use Rattle.erd_meaning.specs.code.RanksAmong.{AllAreRanked, names_of};

@@ -1,5 +1,15 @@
 -- Canonical `@id` texts, elections that are matched, entries that a contest has, and the envelope that is built.
-use Rattle.erd_normal.proofs.Common.{HasCanonicalEnvelope, ◌≡◌, ℕ, ◌+◌, ◌^◌, ◌<◌, ◌≤◌, List, [], ◌∷◌, ◌++◌, length, take, drop, Some, None, Option, find, flat_map, bytes_eq, unwrap_or, sym, refl, ap, ◌∙◌, subst, ap₂, arith, length-append, Data, families, Family, family, Placed, contests, selections_of_contest, objects, IsBounded, decimal, decimal_is_IsNumeral, decimal_injective, id_prefix, canonical_id, canonical_selection_id, In, inl, inr, true, map, nat_lt, true≢false, false_from_ne_true, tied_itself, length-map, IsDistinct, election_has_identifier, no_identity_fault, distinct_from_one_place, distinct_map, distinct_one, IsAccepted, Preference, key_of, elections, has_several, key_cmp_total, Key, In-map, In-map_from, false, codes, option_and_then, AllByRecursion, array, object, Items, Members, get_member, get_item, as_str, class, role, kind, Step, At, Name, array_from, Within-step, of_role, asked_inside_object, wanted_within, lacks_none, Within, list_of_items, entries_at, text_at, Asked, asked, asked_inside, asked_at, Member, Reference, is_selection_in, owner, asked_at-steps, text_of, Object, no_shape_fault, selected, class_of_node, IsSomeAnd, IsTrue, string, get, Reason, reason, ShapeFault, class_of_object, member_want, asked_of_member, asked_from, Want, unsigned, number, is_shape_fault, envelope_rows, HasSoundEnvelope}
+use Rattle.erd_normal.proofs.Common.{HasCanonicalEnvelope, ◌≡◌, ℕ, ◌+◌, ◌^◌, ◌<◌, ◌≤◌, List, [], ◌∷◌, ◌++◌, length, take, drop, Some, None, Option, find}
+use Rattle.erd_normal.proofs.Common.{flat_map, bytes_eq, unwrap_or, sym, refl, ap, ◌∙◌, subst, ap₂, arith, length-append, Data, families, Family, family}
+use Rattle.erd_normal.proofs.Common.{Placed, contests, selections_of_contest, objects, IsBounded, decimal, decimal_is_IsNumeral, decimal_injective, id_prefix}
+use Rattle.erd_normal.proofs.Common.{canonical_id, canonical_selection_id, In, inl, inr, true, map, nat_lt, true≢false, false_from_ne_true, tied_itself}
+use Rattle.erd_normal.proofs.Common.{length-map, IsDistinct, election_has_identifier, no_identity_fault, distinct_from_one_place, distinct_map, distinct_one}
+use Rattle.erd_normal.proofs.Common.{IsAccepted, Preference, key_of, elections, has_several, key_cmp_total, Key, In-map, In-map_from, false, codes}
+use Rattle.erd_normal.proofs.Common.{option_and_then, AllByRecursion, array, object, Items, Members, get_member, get_item, as_str, class, role, kind, Step, At}
+use Rattle.erd_normal.proofs.Common.{Name, array_from, Within-step, of_role, asked_inside_object, wanted_within, lacks_none, Within, list_of_items, entries_at}
+use Rattle.erd_normal.proofs.Common.{text_at, Asked, asked, asked_inside, asked_at, Member, Reference, is_selection_in, owner, asked_at-steps, text_of, Object}
+use Rattle.erd_normal.proofs.Common.{no_shape_fault, selected, class_of_node, IsSomeAnd, IsTrue, string, get, Reason, reason, ShapeFault, class_of_object}
+use Rattle.erd_normal.proofs.Common.{member_want, asked_of_member, asked_from, Want, unsigned, number, is_shape_fault, envelope_rows, HasSoundEnvelope}
 use Rattle.std.specs.Char.{digit_value}
 use Rattle.std.specs.Str.Parse.{AllDigits}
 use Rattle.erd_meaning.specs.code.ObjectWalk.{same_key}
@@ -23,7 +33,8 @@ kept family.Selection i s e = cc
 kept f i s e = subst (λ x. (family_of_id x ≡ Some f) × (drop 2 x ≡ decimal (i + 1))) (ap (λ o. unwrap_or o []) e) (refl, refl)
 
 -- one `@id`, one family and position
-pub canonical_id_exact : (f g : Family) (i j : ℕ) (s : List ℕ) → i + 1 < 2 ^ 64 → j + 1 < 2 ^ 64 → canonical_id f i ≡ Some s → canonical_id g j ≡ Some s → (f ≡ g) × (i ≡ j)
+pub canonical_id_exact : (f g : Family) (i j : ℕ) (s : List ℕ) → i + 1 < 2 ^ 64 → j + 1 < 2 ^ 64 → canonical_id f i ≡ Some s → canonical_id g j
+    ≡ Some s → (f ≡ g) × (i ≡ j)
 canonical_id_exact f g i j s low low' e h =
     let families_same : Some f ≡ Some g = sym (kept f i s e).0 ∙ (kept g j s h).0 in
     let numbers : i + 1 ≡ j + 1 = decimal_injective (i + 1) (j + 1) low low' (sym (kept f i s e).1 ∙ (kept g j s h).1) in
@@ -52,10 +63,12 @@ digits_before (x ∷ xs) ys (u ∷ us) vs a b e =
     (ap₂ (λ y ys. y ∷ ys) first rest.0, rest.1)
 
 -- one text, one position of a contest and one of a selection
-pub canonical_selection_id_exact : (i j k l : ℕ) → i + 1 < 2 ^ 64 → j + 1 < 2 ^ 64 → k + 1 < 2 ^ 64 → l + 1 < 2 ^ 64 → canonical_selection_id i j ≡ canonical_selection_id k l → (i ≡ k) × (j ≡ l)
+pub canonical_selection_id_exact : (i j k l : ℕ) → i + 1 < 2 ^ 64 → j + 1 < 2 ^ 64 → k + 1 < 2 ^ 64 → l + 1 < 2 ^ 64 → canonical_selection_id i j
+    ≡ canonical_selection_id k l → (i ≡ k) × (j ≡ l)
 canonical_selection_id_exact i j k l low_i low_j low_k low_l e =
     let texts : decimal (i + 1) ++ 45 ∷ decimal (j + 1) ≡ decimal (k + 1) ++ 45 ∷ decimal (l + 1) = ap (drop 2) e in
-    let parts = digits_before (decimal (i + 1)) (decimal (j + 1)) (decimal (k + 1)) (decimal (l + 1)) (decimal_is_IsNumeral (i + 1) low_i).0.1 (decimal_is_IsNumeral (k + 1) low_k).0.1 texts in
+    let parts = digits_before (decimal (i + 1)) (decimal (j + 1)) (decimal (k + 1)) (decimal (l + 1)) (decimal_is_IsNumeral (i + 1) low_i).0.1
+    (decimal_is_IsNumeral (k + 1) low_k).0.1 texts in
     let first : i + 1 ≡ k + 1 = decimal_injective (i + 1) (k + 1) low_i low_k parts.0 in
     let second : j + 1 ≡ l + 1 = decimal_injective (j + 1) (l + 1) low_j low_l parts.1 in
     (omega (arith, first), omega (arith, second))
@@ -64,7 +77,8 @@ canonical_selection_id_exact i j k l low_i low_j low_k low_l e =
 part_short : {A B : Type 0} (f : A → List B) (xs : List A) (x : A) → In x xs → length (f x) ≤ length (flat_map f xs)
 part_short f [] x h = absurd h
 part_short f (y ∷ ys) x (inl e) = subst (λ z. length (f z) ≤ length (f y ++ flat_map f ys)) e (omega (arith, length-append (f y) (flat_map f ys)))
-part_short f (y ∷ ys) x (inr h) = let rest : length (f x) ≤ length (flat_map f ys) = part_short f ys x h in omega (arith, rest, length-append (f y) (flat_map f ys))
+part_short f (y ∷ ys) x (inr h) = let rest : length (f x) ≤ length (flat_map f ys) = part_short f ys x h in
+    omega (arith, rest, length-append (f y) (flat_map f ys))
 
 -- a contest has few selections
 pub few_selections : (t : Data) → IsBounded t → (contest : Placed) → In contest (objects family.Contest t) → length (selections_of_contest contest) < 2 ^ 64
@@ -87,7 +101,8 @@ module _ (π : Preference) where
 
   twins_even : IsEven (λ d e. same_key (key_of π d) (key_of π e))
   twins_even d e h =
-      false_from_ne_true (same_key (key_of π e) (key_of π d)) (λ g. let s = same_key_from (key_of π e) (key_of π d) g in true≢false (sym (twin_from d e s.0 s.2 s.1) ∙ h))
+      false_from_ne_true (same_key (key_of π e) (key_of π d)) (λ g. let s = same_key_from (key_of π e) (key_of π d) g in
+      true≢false (sym (twin_from d e s.0 s.2 s.1) ∙ h))
 
   elections_distinct : (t : Data) → IsAccepted π t → IsDistinct (λ d e. same_key (key_of π d) (key_of π e)) (election_values t)
   elections_distinct t accepted =
@@ -114,7 +129,8 @@ module _ (π : Preference) where
     one_election d e k h i a b =
         distinct_one (λ (x : Placed). x.value) (λ x y. same_key (key_of π x) (key_of π y)) (elections u)
         (distinct_matched (λ x y. same_key (key_of π x) (key_of π y)) (λ x y. same_key (key_of π x) (key_of π y)) twins_even
-        (λ x x' y y' i j r r' h. let s = same_key_from (key_of π y) (key_of π y') h in twin_from x x' s.0 (r ∙ s.1) (r' ∙ s.2)) m (elections_distinct t accepted))
+        (λ x x' y y' i j r r' h. let s = same_key_from (key_of π y) (key_of π y') h in twin_from x x' s.0 (r ∙ s.1) (r' ∙ s.2)) m
+        (elections_distinct t accepted))
         d e h i (twin_from d.value e.value k a b) (twin_from e.value d.value k b a)
 
 -- ---- each entry of an object's list in an accepted report is a selection of the contest that the object names
@@ -128,13 +144,15 @@ module _ (π : Preference) (t : Data) (accepted : IsAccepted π t)
   -- the reference to the contest
   pub contest_named : (v : Data) × (get_member (codes "ContestId") ms ≡ Some v) × Refers t family.Contest v
   contest_named =
-      (elim (get_member (codes "ContestId") ms) as (λ o. get_member (codes "ContestId") ms ≡ o → (v : Data) × (get_member (codes "ContestId") ms ≡ Some v) × Refers t family.Contest v) [
+      (elim (get_member (codes "ContestId") ms) as (λ o. get_member (codes "ContestId") ms ≡ o → (v : Data) × (get_member (codes "ContestId") ms ≡ Some v)
+      × Refers t family.Contest v) [
         | None ↦ λ is. absurd (lacks_none t (no_shape_fault π t accepted) (asked (Object role.Content) (object ms)) (codes "ContestId") w (rw among refl) is)
         | Some v ↦ λ is. (
           v,
           is,
           reference_refers π t accepted family.Contest v
-              (Within-step t (asked (Object role.Content) (object ms)) (asked (Reference family.Contest) v) (Name (codes "ContestId")) w (asked_inside_object (Object role.Content) role.Content ms class.OrderedContest (codes "ContestId") v of_role among refl is)),
+              (Within-step t (asked (Object role.Content) (object ms)) (asked (Reference family.Contest) v) (Name (codes "ContestId")) w
+              (asked_inside_object (Object role.Content) role.Content ms class.OrderedContest (codes "ContestId") v of_role among refl is)),
         )
       ]) refl
 
@@ -143,8 +161,7 @@ module _ (π : Preference) (t : Data) (accepted : IsAccepted π t)
   IsChosen e = Refers t family.Selection e × (is_selection_in contest_named.2.2.0 (text_of e) ≡ true)
 
   -- so does each reference of the list
-  entry_in : (i : ℕ) (ds : Items) (e : Data) → get_member list_name ms ≡ Some (array ds) → get_item i ds ≡ Some e
-      → IsChosen e
+  entry_in : (i : ℕ) (ds : Items) (e : Data) → get_member list_name ms ≡ Some (array ds) → get_item i ds ≡ Some e → IsChosen e
   entry_in i ds e stands found =
       let list : Asked = asked (Member kind.Ordered false) (array ds) in
       let first : asked_inside (Object role.Content) (object ms) (Name list_name) ≡ Some list =
@@ -152,13 +169,15 @@ module _ (π : Preference) (t : Data) (accepted : IsAccepted π t)
       let second : asked_inside list.want list.value (At i) ≡ Some (asked (Reference family.Selection) e) = rw found refl in
       let place : List Step = w.place ++ Name list_name ∷ At i ∷ [] in
       let is : asked_at t place ≡ Some (asked (Reference family.Selection) e) =
-      asked_at-steps t w.place (asked (Object role.Content) (object ms)) list (asked (Reference family.Selection) e) (Name list_name) (At i) w.is first second in
+      asked_at-steps t w.place (asked (Object role.Content) (object ms)) list (asked (Reference family.Selection) e) (Name list_name)
+      (At i) w.is first second in
       let r : Refers t family.Selection e = reference_refers π t accepted family.Selection e (record { place = place; is = is }) in
       let named : owner t family.Contest (text_at (codes "ContestId") (object ms)) ≡ Some contest_named.2.2.0 =
       ap (λ o. owner t family.Contest (unwrap_or (option_and_then as_str o) [])) contest_named.1
       ∙ ap (λ x. owner t family.Contest (text_of x)) contest_named.2.1 ∙ contest_named.2.2.1 in
       let chosen : is_selection_in contest_named.2.2.0 r.0 ≡ true =
-      selected π t accepted (asked (Object role.Content) (object ms)) contest_named.2.2.0 w named i r.0 (is ∙ ap (λ x. Some (asked (Reference family.Selection) x)) r.1) in
+      selected π t accepted (asked (Object role.Content) (object ms)) contest_named.2.2.0 w named i r.0
+      (is ∙ ap (λ x. Some (asked (Reference family.Selection) x)) r.1) in
       (r, ap (λ x. is_selection_in contest_named.2.2.0 (text_of x)) r.1 ∙ chosen)
 
   pub entries_chosen : AllByRecursion IsChosen (entries_at list_name (object ms))
@@ -212,10 +231,12 @@ module _ (u : Data) (known : class_of_object role.Report u ≡ Some class.Electi
   sound_under n w o other wants stands sound q r h =
       sound q r (subst (λ x. FaultIn x q r) (asked_under u n known other ∙ ap₂ (λ v x. asked_of_member (Some v) x) wants stands) h)
 
-  word_under : (n s : List ℕ) → bytes_eq n (codes "@type") ≡ false → member_want class.ElectionReport n ≡ Member kind.Word false → get n u ≡ Some (string s) → IsSoundUnder n
+  word_under : (n s : List ℕ) → bytes_eq n (codes "@type") ≡ false → member_want class.ElectionReport n ≡ Member kind.Word false
+      → get n u ≡ Some (string s) → IsSoundUnder n
   word_under n s other wants stands = sound_under n (Member kind.Word false) (Some (string s)) other wants stands (word_sound s)
 
-  whole_under : (n : List ℕ) (k : ℕ) → bytes_eq n (codes "@type") ≡ false → member_want class.ElectionReport n ≡ Member kind.Whole false → get n u ≡ Some (number (unsigned k)) → IsSoundUnder n
+  whole_under : (n : List ℕ) (k : ℕ) → bytes_eq n (codes "@type") ≡ false → member_want class.ElectionReport n ≡ Member kind.Whole false
+      → get n u ≡ Some (number (unsigned k)) → IsSoundUnder n
   whole_under n k other wants stands = sound_under n (Member kind.Whole false) (Some (number (unsigned k))) other wants stands (whole_sound k)
 
   absent_under : (n : List ℕ) → bytes_eq n (codes "@type") ≡ false → get n u ≡ None → IsSoundUnder n
@@ -223,9 +244,17 @@ module _ (u : Data) (known : class_of_object role.Report u ≡ Some class.Electi
 
   rows_sound : AllByRecursion (λ row. IsSoundUnder row.name) envelope_rows
   rows_sound =
-      let numbers : AllByRecursion (λ row. IsSoundUnder row.name) (drop 6 envelope_rows) = (whole_under (codes "SequenceStart") _ refl refl e.start, (whole_under (codes "SequenceEnd") _ refl refl e.end, (absent_under (codes "ExternalIdentifier") refl e.identifiers, tt))) in
-      let names : AllByRecursion (λ row. IsSoundUnder row.name) (drop 3 envelope_rows) = (word_under (codes "IssuerAbbreviation") _ refl refl e.abbreviation, (word_under (codes "VendorApplicationId") _ refl refl e.application, (absent_under (codes "Notes") refl e.notes, numbers))) in
-      (word_under (codes "Format") _ refl refl e.format, (word_under (codes "GeneratedDate") _ refl refl e.date, (word_under (codes "Issuer") _ refl refl e.issuer, names)))
+      let numbers : AllByRecursion (λ row. IsSoundUnder row.name) (drop 6 envelope_rows) = (
+        whole_under (codes "SequenceStart") _ refl refl e.start,
+        (whole_under (codes "SequenceEnd") _ refl refl e.end, (absent_under (codes "ExternalIdentifier") refl e.identifiers, tt)),
+      ) in
+      let names : AllByRecursion (λ row. IsSoundUnder row.name) (drop 3 envelope_rows) = (
+        word_under (codes "IssuerAbbreviation") _ refl refl e.abbreviation,
+        (word_under (codes "VendorApplicationId") _ refl refl e.application, (absent_under (codes "Notes") refl e.notes, numbers)),
+      ) in (
+        word_under (codes "Format") _ refl refl e.format,
+        (word_under (codes "GeneratedDate") _ refl refl e.date, (word_under (codes "Issuer") _ refl refl e.issuer, names)),
+      )
 
   -- the envelope of the report that is built is sound
   pub sound_envelope : HasSoundEnvelope u

@@ -1,5 +1,6 @@
 -- A selection stands in one contest of an accepted report.
-use Rattle.erd_normal.proofs.Common.{◌≡◌, ℕ, ◌+◌, List, [], ◌∷◌, ◌++◌, codes, Less, Equal, sym, refl, ap, ◌∙◌, ap₂, tied_itself, Data, family, At, Name, position_of, IsAccepted, Preference, IsBefore, Placed, selections_of_contest, objects, one_placed, In}
+use Rattle.erd_normal.proofs.Common.{◌≡◌, ℕ, ◌+◌, List, [], ◌∷◌, ◌++◌, codes, Less, Equal, sym, refl, ap, ◌∙◌, ap₂, tied_itself, Data, family, At, Name}
+use Rattle.erd_normal.proofs.Common.{position_of, IsAccepted, Preference, IsBefore, Placed, selections_of_contest, objects, one_placed, In}
 use Rattle.erd_tables.specs.Places.{place_cmp}
 use Rattle.erd_tables.proofs.PlaceOrder.{place_cmp_total}
 use Rattle.erd_normal.proofs.canonical.NormalKeys.{placed_at, selection_values}
@@ -33,7 +34,8 @@ never_before_itself o before = let h : Equal ≡ Less = sym (tied_itself place_c
 
 module _ (π : Preference) (t : Data) (accepted : IsAccepted π t) where
   -- two contests that have one selection are one
-  pub one_contest : (c d o : Placed) → In c (objects family.Contest t) → In d (objects family.Contest t) → In o (selections_of_contest c) → In o (selections_of_contest d) → c ≡ d
+  pub one_contest : (c d o : Placed) → In c (objects family.Contest t) → In d (objects family.Contest t) → In o (selections_of_contest c)
+      → In o (selections_of_contest d) → c ≡ d
   one_contest c d o in_c in_d of_c of_d =
       let k = contest_place c o of_c in
       let l = contest_place d o of_d in

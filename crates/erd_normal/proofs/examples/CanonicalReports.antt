@@ -1,5 +1,15 @@
 -- Whole reports that are canonical, the canonical forms of two, pairs in a stable order, and rearrangements, by computation.
-use Rattle.erd_normal.proofs.Common.{◌≡◌, ℕ, List, [], ◌++◌, None, codes, refl, tree_of, small_ballot, small_ballot_canonical, one_unit, two_elections, three_contests, serde_json_on_literals, digits, identifier, ◌^◌, ◌<◌, false, length, slice_get, bytes_eq, unwrap_or, ap, subst, true≢false, arith, lit<, option_map_or, Data, Family, family, IsAccepted, Placed, report_of, objects, HasFittingNumbers, IsNoDeeper, IsObject, HasCanonicalEnvelope, HasCanonicalIds, IsCanonical, IsCanonicalFormOf, Bool, true, not, ◌&&◌, ◌∷◌, map, Some, Option, is_lt, Ordering, Less, not-true, and_parts, list_all, IsStrictlySortedBy, option_cmp, MemberKind, kind, Step, less, entries_of, Asked, asked_at, key_cmp, compact_cmp, name_of, name_cmp, kind_wanted, HasNoEmptyArray, keys_of, keys_referred, RisesAs, AreSetsInOrder, all_from_In, each_holds, is_empty_array, zero, suc, ◌+◌, ◌≤◌, get_or as slice_index_or, nat_cmp, is_eq, Equal, sym, ◌∙◌, tied_itself, nat_cmp_total, on_total, then_total, nat_list_cmp_total, IsTotalOrder, ordering_reverse, local_key, Key, pairs_of, IsStablySorted, option_map, At, Name, a_key, a_plain, NameParts, contests, members_of, canonical_id, canonical_selection_id, placed_keys, ids_in, names_in, Renaming, renamed, exchanged, HasEntries, a_renaming, an_exchange, changed}
+use Rattle.erd_normal.proofs.Common.{◌≡◌, ℕ, List, [], ◌++◌, None, codes, refl, tree_of, small_ballot, small_ballot_canonical, one_unit, two_elections}
+use Rattle.erd_normal.proofs.Common.{three_contests, serde_json_on_literals, digits, identifier, ◌^◌, ◌<◌, false, length, slice_get, bytes_eq, unwrap_or, ap}
+use Rattle.erd_normal.proofs.Common.{subst, true≢false, arith, lit<, option_map_or, Data, Family, family, IsAccepted, Placed, report_of, objects}
+use Rattle.erd_normal.proofs.Common.{HasFittingNumbers, IsNoDeeper, IsObject, HasCanonicalEnvelope, HasCanonicalIds, IsCanonical, IsCanonicalFormOf, Bool, true}
+use Rattle.erd_normal.proofs.Common.{not, ◌&&◌, ◌∷◌, map, Some, Option, is_lt, Ordering, Less, not-true, and_parts, list_all, IsStrictlySortedBy, option_cmp}
+use Rattle.erd_normal.proofs.Common.{MemberKind, kind, Step, less, entries_of, Asked, asked_at, key_cmp, compact_cmp, name_of, name_cmp, kind_wanted}
+use Rattle.erd_normal.proofs.Common.{HasNoEmptyArray, keys_of, keys_referred, RisesAs, AreSetsInOrder, all_from_In, each_holds, is_empty_array, zero, suc, ◌+◌}
+use Rattle.erd_normal.proofs.Common.{◌≤◌, get_or as slice_index_or, nat_cmp, is_eq, Equal, sym, ◌∙◌, tied_itself, nat_cmp_total, on_total, then_total}
+use Rattle.erd_normal.proofs.Common.{nat_list_cmp_total, IsTotalOrder, ordering_reverse, local_key, Key, pairs_of, IsStablySorted, option_map, At, Name, a_key}
+use Rattle.erd_normal.proofs.Common.{a_plain, NameParts, contests, members_of, canonical_id, canonical_selection_id, placed_keys, ids_in, names_in, Renaming}
+use Rattle.erd_normal.proofs.Common.{renamed, exchanged, HasEntries, a_renaming, an_exchange, changed}
 use Rattle.erd_check.proofs.AskedInside.{AskedPlace, all_asked, tested_at}
 use Rattle.erd_check.proofs.WholeExamples.{IsFaultless, one_unit_is_faultless, small_ballot_is_faultless}
 use Rattle.erd_normal.proofs.view.ViewForms.{form_written}
@@ -8,7 +18,12 @@ use Rattle.erd_meaning.proofs.examples.RefusedExamples.{one_unit_is_accepted, sm
 
 -- the canonical form of the report of one unit
 abbrev pub one_unit_canonical : List ℕ
-one_unit_canonical = codes "{\"@type\":\"ElectionResults.ElectionReport\",\"Election\":[{\"@type\":\"ElectionResults.Election\",\"ElectionScopeId\":\"gp1\",\"EndDate\":\"2026-11-03\",\"Name\":\"Test\",\"StartDate\":\"2026-11-03\",\"Type\":\"general\"}],\"Format\":\"summary-contest\",\"GeneratedDate\":\"2000-01-01T00:00:00Z\",\"GpUnit\":[{\"@id\":\"gp1\",\"@type\":\"ElectionResults.ReportingUnit\",\"ExternalIdentifier\":[{\"@type\":\"ElectionResults.ExternalIdentifier\",\"Type\":\"local-level\",\"Value\":\"U1\"}],\"Type\":\"county\"}],\"Issuer\":\"canonical\",\"IssuerAbbreviation\":\"canonical\",\"SequenceEnd\":1,\"SequenceStart\":1,\"Status\":\"pre-election\",\"VendorApplicationId\":\"canonical\"}"
+one_unit_canonical = codes "{\"@type\":\"ElectionResults.ElectionReport\",\"Election\":[{\"@type\":\"ElectionResults.Election\",\"ElectionScopeId\":\"gp1\""
+    ++ codes ",\"EndDate\":\"2026-11-03\",\"Name\":\"Test\",\"StartDate\":\"2026-11-03\",\"Type\":\"general\"}],\"Format\":\"summary-contest\""
+    ++ codes ",\"GeneratedDate\":\"2000-01-01T00:00:00Z\",\"GpUnit\":[{\"@id\":\"gp1\",\"@type\":\"ElectionResults.ReportingUnit\""
+    ++ codes ",\"ExternalIdentifier\":[{\"@type\":\"ElectionResults.ExternalIdentifier\",\"Type\":\"local-level\",\"Value\":\"U1\"}],\"Type\":\"county\"}]"
+    ++ codes ",\"Issuer\":\"canonical\",\"IssuerAbbreviation\":\"canonical\",\"SequenceEnd\":1,\"SequenceStart\":1,\"Status\":\"pre-election\""
+    ++ codes ",\"VendorApplicationId\":\"canonical\"}"
 
 pub one_unit_built : whole (style_of None (tree_of one_unit)) (tree_of one_unit) ≡ tree_of one_unit_canonical
 unfolding serde_json_on_literals digits
@@ -26,7 +41,8 @@ canonical_built_again = refl
 
 -- a contest of the canonical form
 abbrev numbered_contest : List ℕ → List ℕ → List ℕ
-numbered_contest id value = codes "{\"@id\":\"" ++ id ++ codes "\",\"@type\":\"ElectionResults.PartyContest\",\"ElectionDistrictId\":\"gp1\"," ++ identifier value ++ codes ",\"Name\":\"N\"}"
+numbered_contest id value = codes "{\"@id\":\"" ++ id ++ codes "\",\"@type\":\"ElectionResults.PartyContest\",\"ElectionDistrictId\":\"gp1\","
+    ++ identifier value ++ codes ",\"Name\":\"N\"}"
 
 -- an election of the canonical form, with this member for its contests
 abbrev rising_election : List ℕ → List ℕ → List ℕ → List ℕ
@@ -38,7 +54,10 @@ rising_election contests value name =
 abbrev canonical_with : List ℕ → List ℕ → List ℕ
 canonical_with first second =
     codes "{\"@type\":\"ElectionResults.ElectionReport\",\"Election\":[" ++ first ++ codes "," ++ second
-    ++ codes "],\"Format\":\"summary-contest\",\"GeneratedDate\":\"2000-01-01T00:00:00Z\",\"GpUnit\":[{\"@id\":\"gp1\",\"@type\":\"ElectionResults.ReportingUnit\",\"ExternalIdentifier\":[{\"@type\":\"ElectionResults.ExternalIdentifier\",\"Type\":\"local-level\",\"Value\":\"U1\"}],\"Type\":\"county\"}],\"Issuer\":\"canonical\",\"IssuerAbbreviation\":\"canonical\",\"SequenceEnd\":1,\"SequenceStart\":1,\"Status\":\"pre-election\",\"VendorApplicationId\":\"canonical\"}"
+    ++ codes "],\"Format\":\"summary-contest\",\"GeneratedDate\":\"2000-01-01T00:00:00Z\",\"GpUnit\":[{\"@id\":\"gp1\""
+    ++ codes ",\"@type\":\"ElectionResults.ReportingUnit\",\"ExternalIdentifier\":[{\"@type\":\"ElectionResults.ExternalIdentifier\""
+    ++ codes ",\"Type\":\"local-level\",\"Value\":\"U1\"}],\"Type\":\"county\"}],\"Issuer\":\"canonical\",\"IssuerAbbreviation\":\"canonical\""
+    ++ codes ",\"SequenceEnd\":1,\"SequenceStart\":1,\"Status\":\"pre-election\",\"VendorApplicationId\":\"canonical\"}"
 
 -- the election E1 stands first
 two_elections_built : whole (style_of None (tree_of two_elections)) (tree_of two_elections)
@@ -47,17 +66,21 @@ unfolding serde_json_on_literals digits
 two_elections_built = refl
 
 -- E1 has the first and the third contest, and E2 the second
-three_contests_built : whole (style_of None (tree_of three_contests)) (tree_of three_contests)
-    ≡ tree_of (canonical_with (rising_election (codes "\"Contest\":[" ++ numbered_contest (codes "co1") (codes "C1") ++ codes "," ++ numbered_contest (codes "co3") (codes "C3") ++ codes "],") (codes "E1") (codes "Other"))
+three_contests_built : whole (style_of None (tree_of three_contests)) (tree_of three_contests) ≡ tree_of
+    (canonical_with
+    (rising_election (codes "\"Contest\":[" ++ numbered_contest (codes "co1") (codes "C1") ++ codes "," ++ numbered_contest (codes "co3") (codes "C3")
+    ++ codes "],") (codes "E1") (codes "Other"))
     (rising_election (codes "\"Contest\":[" ++ numbered_contest (codes "co2") (codes "C2") ++ codes "],") (codes "E2") (codes "Test")))
 unfolding serde_json_on_literals digits
 three_contests_built = refl
 
 -- ---- the tree that is built for a report is its canonical form
 
-form_of : (text form : List ℕ) → IsFaultless text → IsAccepted None (tree_of text) → ((f : Family) → length (objects f (tree_of text)) < 2 ^ 64) → HasFittingNumbers (tree_of text)
+form_of : (text form : List ℕ) → IsFaultless text → IsAccepted None (tree_of text) → ((f : Family) → length (objects f (tree_of text)) < 2 ^ 64)
+    → HasFittingNumbers (tree_of text)
     → whole (style_of None (tree_of text)) (tree_of text) ≡ tree_of form → IsCanonicalFormOf None (tree_of text) (tree_of form)
-form_of text form faultless accepted few fits built = subst (IsCanonicalFormOf None (tree_of text)) built (form_written None (tree_of text) accepted faultless.tree (record { few = few }) fits)
+form_of text form faultless accepted few fits built = subst (IsCanonicalFormOf None (tree_of text)) built
+    (form_written None (tree_of text) accepted faultless.tree (record { few = few }) fits)
 
 few : (f : Family) → (length (objects f (tree_of one_unit)) < 2 ^ 64) × (length (objects f (tree_of small_ballot)) < 2 ^ 64)
 unfolding serde_json_on_literals
@@ -72,7 +95,8 @@ pub form_of_one_unit : IsCanonicalFormOf None (tree_of one_unit) (tree_of one_un
 form_of_one_unit = form_of one_unit one_unit_canonical one_unit_is_faultless one_unit_is_accepted (λ f. (few f).0) both_fit.0 one_unit_built
 
 pub form_of_small_ballot : IsCanonicalFormOf None (tree_of small_ballot) (tree_of small_ballot_canonical)
-form_of_small_ballot = form_of small_ballot small_ballot_canonical small_ballot_is_faultless small_ballot_is_accepted (λ f. (few f).1) both_fit.1 small_ballot_built
+form_of_small_ballot = form_of small_ballot small_ballot_canonical small_ballot_is_faultless small_ballot_is_accepted (λ f. (few f).1)
+    both_fit.1 small_ballot_built
 
 -- a canonical form is nested no deeper than its report
 no_deeper : IsNoDeeper (tree_of small_ballot_canonical) (tree_of small_ballot)
@@ -156,7 +180,8 @@ first_stands = (0, lit< tt, refl)
 
 other_ids : HasCanonicalIds None (tree_of small_ballot) → ⊥
 unfolding serde_json_on_literals digits
-other_ids h = true≢false (ap (λ id. option_map_or (bytes_eq (codes "a2")) id false) (h.families family.Unit (first_unit (tree_of small_ballot)) refl first_stands))
+other_ids h =
+    true≢false (ap (λ id. option_map_or (bytes_eq (codes "a2")) id false) (h.families family.Unit (first_unit (tree_of small_ballot)) refl first_stands))
 
 -- ---- pairs sorted by their keys with the order of equal keys kept, and lists that are no such sorting
 
@@ -207,7 +232,8 @@ by_numbers = stably_sorted nat_cmp nat_cmp_total 1 2 refl
 
 -- keys are in a total order
 keys_total : IsTotalOrder key_cmp
-keys_total = then_total (on_total (λ k. k.kind) nat_list_cmp_total) (then_total (on_total (λ k. k.other) nat_list_cmp_total) (on_total (λ k. k.value) nat_list_cmp_total))
+keys_total = then_total (on_total (λ k. k.kind) nat_list_cmp_total)
+    (then_total (on_total (λ k. k.other) nat_list_cmp_total) (on_total (λ k. k.value) nat_list_cmp_total))
 
 by_keys : (let u = local_key (codes "U1") in let v = local_key (codes "U2") in
     IsSortedByKey ((v, 10) ∷ (u, 11) ∷ (v, 12) ∷ (u, 13) ∷ []) ((u, 11) ∷ (u, 13) ∷ (v, 10) ∷ (v, 12) ∷ []))
@@ -263,7 +289,8 @@ unfolding serde_json_on_literals digits
 canonical_ids = refl
 
 canonical_selection_ids : ids_in family.Selection (tree_of small_ballot_canonical)
-    ≡ Some (canonical_selection_id 0 0) ∷ Some (canonical_selection_id 0 1) ∷ Some (canonical_selection_id 0 2) ∷ Some (canonical_selection_id 1 0) ∷ Some (canonical_selection_id 1 1) ∷ []
+    ≡ Some (canonical_selection_id 0 0) ∷ Some (canonical_selection_id 0 1) ∷ Some (canonical_selection_id 0 2) ∷ Some (canonical_selection_id 1 0)
+    ∷ Some (canonical_selection_id 1 1) ∷ []
 unfolding serde_json_on_literals digits
 canonical_selection_ids = refl
 
@@ -277,44 +304,60 @@ abbrev orders : Data → List Step → List Step → List Bool
 orders t references translations =
     map (λ f. rises (option_cmp key_cmp) (placed_keys None f t)) (family.Unit ∷ family.Candidate ∷ family.Contest ∷ [])
     ++ (map (λ contest. rises (option_cmp name_cmp) (names_in None t contest)) (contests t)
-    ++ rises (option_cmp key_cmp) (keys_referred None t family.Candidate (entries_at_place t references)) ∷ rises compact_cmp (entries_at_place t translations) ∷ [])
+    ++ rises (option_cmp key_cmp) (keys_referred None t family.Candidate (entries_at_place t references)) ∷ rises compact_cmp
+    (entries_at_place t translations) ∷ [])
 
-canonical_orders : orders (tree_of small_ballot_canonical) (Name (codes "Election") ∷ At 0 ∷ Name (codes "Contest") ∷ At 0 ∷ Name (codes "ContestSelection") ∷ At 1 ∷ Name (codes "CandidateIds") ∷ []) (Name (codes "Election") ∷ At 0 ∷ Name (codes "Contest") ∷ At 1 ∷ Name (codes "ContestSelection") ∷ At 1 ∷ Name (codes "Selection") ∷ Name (codes "Text") ∷ [])
-    ≡ true ∷ true ∷ true ∷ true ∷ true ∷ true ∷ true ∷ []
+canonical_orders : orders (tree_of small_ballot_canonical) (Name (codes "Election") ∷ At 0 ∷ Name (codes "Contest") ∷ At 0 ∷ Name (codes "ContestSelection")
+    ∷ At 1 ∷ Name (codes "CandidateIds") ∷ []) (Name (codes "Election") ∷ At 0 ∷ Name (codes "Contest") ∷ At 1 ∷ Name (codes "ContestSelection") ∷ At 1
+    ∷ Name (codes "Selection") ∷ Name (codes "Text") ∷ []) ≡ true ∷ true ∷ true ∷ true ∷ true ∷ true ∷ true ∷ []
 unfolding serde_json_on_literals
 canonical_orders = refl
 
 -- the input has its contests in order, and nothing else
-other_orders : orders (tree_of small_ballot) (Name (codes "Election") ∷ At 0 ∷ Name (codes "Contest") ∷ At 0 ∷ Name (codes "ContestSelection") ∷ At 0 ∷ Name (codes "CandidateIds") ∷ []) (Name (codes "Election") ∷ At 0 ∷ Name (codes "Contest") ∷ At 1 ∷ Name (codes "ContestSelection") ∷ At 0 ∷ Name (codes "Selection") ∷ Name (codes "Text") ∷ [])
-    ≡ false ∷ false ∷ true ∷ false ∷ false ∷ false ∷ false ∷ []
+other_orders : orders (tree_of small_ballot) (Name (codes "Election") ∷ At 0 ∷ Name (codes "Contest") ∷ At 0 ∷ Name (codes "ContestSelection") ∷ At 0
+    ∷ Name (codes "CandidateIds") ∷ []) (Name (codes "Election") ∷ At 0 ∷ Name (codes "Contest") ∷ At 1 ∷ Name (codes "ContestSelection") ∷ At 0
+    ∷ Name (codes "Selection") ∷ Name (codes "Text") ∷ []) ≡ false ∷ false ∷ true ∷ false ∷ false ∷ false ∷ false ∷ []
 unfolding serde_json_on_literals
 other_orders = refl
 
 -- ---- rearrangements
 
 -- the `@id` and the references follow; labels and carried texts of the same bytes stay
-renamed_unit : renamed ((codes "u7", codes "k") ∷ []) (tree_of (codes "{\"@type\":\"ElectionResults.ElectionReport\",\"Status\":\"pre-election\",\"Note\":\"u7\",\"GpUnit\":[{\"@id\":\"u7\",\"@type\":\"ElectionResults.ReportingUnit\",\"Type\":\"u7\",\"ComposingGpUnitIds\":[\"u7\"],\"ContactInformation\":{\"Name\":\"u7\"}}],\"Election\":[{\"@type\":\"ElectionResults.Election\",\"Name\":\"u7\",\"ElectionScopeId\":\"u7\"}]}"))
-    ≡ tree_of (codes "{\"@type\":\"ElectionResults.ElectionReport\",\"Status\":\"pre-election\",\"Note\":\"u7\",\"GpUnit\":[{\"@id\":\"k\",\"@type\":\"ElectionResults.ReportingUnit\",\"Type\":\"u7\",\"ComposingGpUnitIds\":[\"k\"],\"ContactInformation\":{\"Name\":\"u7\"}}],\"Election\":[{\"@type\":\"ElectionResults.Election\",\"Name\":\"u7\",\"ElectionScopeId\":\"k\"}]}")
+renamed_unit : renamed ((codes "u7", codes "k") ∷ []) (tree_of (codes "{\"@type\":\"ElectionResults.ElectionReport\",\"Status\":\"pre-election\""
+    ++ codes ",\"Note\":\"u7\",\"GpUnit\":[{\"@id\":\"u7\",\"@type\":\"ElectionResults.ReportingUnit\",\"Type\":\"u7\",\"ComposingGpUnitIds\":[\"u7\"]"
+    ++ codes ",\"ContactInformation\":{\"Name\":\"u7\"}}],\"Election\":[{\"@type\":\"ElectionResults.Election\",\"Name\":\"u7\",\"ElectionScopeId\":\"u7\"}]}"))
+    ≡ tree_of (codes "{\"@type\":\"ElectionResults.ElectionReport\",\"Status\":\"pre-election\",\"Note\":\"u7\",\"GpUnit\":[{\"@id\":\"k\""
+    ++ codes ",\"@type\":\"ElectionResults.ReportingUnit\",\"Type\":\"u7\",\"ComposingGpUnitIds\":[\"k\"],\"ContactInformation\":{\"Name\":\"u7\"}}]"
+    ++ codes ",\"Election\":[{\"@type\":\"ElectionResults.Election\",\"Name\":\"u7\",\"ElectionScopeId\":\"k\"}]}")
 unfolding serde_json_on_literals
 renamed_unit = refl
 
 -- exchanged twice the report is as it was; once, its units and the keys of a set of references stand the other way round
 exchanged_units : (let t = tree_of small_ballot in
     (changed (an_exchange (Name (codes "GpUnit") ∷ []) 0 1) (changed (an_exchange (Name (codes "GpUnit") ∷ []) 0 1) t) ≡ t)
-    × (rises (option_cmp key_cmp) (placed_keys None family.Unit (exchanged (Name (codes "GpUnit") ∷ []) 0 1 t)) ≡ true)
-    × (rises (option_cmp key_cmp) (keys_referred None t family.Candidate (entries_at_place (exchanged (Name (codes "Election") ∷ At 0 ∷ Name (codes "Contest") ∷ At 0 ∷ Name (codes "ContestSelection") ∷ At 0 ∷ Name (codes "CandidateIds") ∷ []) 0 1 t) (Name (codes "Election") ∷ At 0 ∷ Name (codes "Contest") ∷ At 0 ∷ Name (codes "ContestSelection") ∷ At 0 ∷ Name (codes "CandidateIds") ∷ []))) ≡ true))
+    × (rises (option_cmp key_cmp) (placed_keys None family.Unit (exchanged (Name (codes "GpUnit") ∷ []) 0 1 t)) ≡ true) × (rises (option_cmp key_cmp)
+    (keys_referred None t family.Candidate
+    (entries_at_place
+    (exchanged (Name (codes "Election") ∷ At 0 ∷ Name (codes "Contest") ∷ At 0 ∷ Name (codes "ContestSelection") ∷ At 0 ∷ Name (codes "CandidateIds") ∷ [])
+    0 1 t) (Name (codes "Election") ∷ At 0 ∷ Name (codes "Contest") ∷ At 0 ∷ Name (codes "ContestSelection") ∷ At 0 ∷ Name (codes "CandidateIds") ∷ [])))
+    ≡ true))
 unfolding serde_json_on_literals
 exchanged_units = (refl, refl, refl)
 
 -- every `@id` of the small ballot with another text
 abbrev other_texts : Renaming
 other_texts =
-    (codes "a1", codes "z1") ∷ (codes "a2", codes "z2") ∷ (codes "a3", codes "z3") ∷ (codes "a4", codes "z4") ∷ (codes "a5", codes "z5") ∷ (codes "a6", codes "z6") ∷ (codes "a7", codes "z7") ∷ (codes "a8", codes "z8") ∷ (codes "a9", codes "z9") ∷ (codes "a10", codes "z10") ∷ (codes "a11", codes "z11") ∷ (codes "a12", codes "z12") ∷ (codes "a13", codes "z13") ∷ (codes "a14", codes "z14") ∷ (codes "a15", codes "z15") ∷ (codes "a16", codes "z16") ∷ (codes "a17", codes "z17") ∷ []
+    (codes "a1", codes "z1") ∷ (codes "a2", codes "z2") ∷ (codes "a3", codes "z3") ∷ (codes "a4", codes "z4") ∷ (codes "a5", codes "z5")
+    ∷ (codes "a6", codes "z6") ∷ (codes "a7", codes "z7") ∷ (codes "a8", codes "z8") ∷ (codes "a9", codes "z9") ∷ (codes "a10", codes "z10")
+    ∷ (codes "a11", codes "z11") ∷ (codes "a12", codes "z12") ∷ (codes "a13", codes "z13") ∷ (codes "a14", codes "z14") ∷ (codes "a15", codes "z15")
+    ∷ (codes "a16", codes "z16") ∷ (codes "a17", codes "z17") ∷ []
 
 abbrev rearranged : Data → Data
 rearranged t =
-    changed (an_exchange (Name (codes "Election") ∷ At 0 ∷ Name (codes "Contest") ∷ At 0 ∷ Name (codes "ContestSelection") ∷ At 0 ∷ Name (codes "CandidateIds") ∷ []) 0 1)
-    (changed (an_exchange (Name (codes "Election") ∷ At 0 ∷ Name (codes "Candidate") ∷ []) 0 2) (changed (a_renaming other_texts) (changed (an_exchange (Name (codes "GpUnit") ∷ []) 0 1) t)))
+    changed (an_exchange (Name (codes "Election") ∷ At 0 ∷ Name (codes "Contest") ∷ At 0 ∷ Name (codes "ContestSelection") ∷ At 0
+    ∷ Name (codes "CandidateIds") ∷ []) 0 1)
+    (changed (an_exchange (Name (codes "Election") ∷ At 0 ∷ Name (codes "Candidate") ∷ []) 0 2)
+    (changed (a_renaming other_texts) (changed (an_exchange (Name (codes "GpUnit") ∷ []) 0 1) t)))
 
 abbrev key_values : Option NameParts → List (List ℕ)
 key_values name = option_map_or (λ n. map (λ k. k.value) n.keys) name []
@@ -340,8 +383,10 @@ rearranged_references = refl
 -- a set may be rearranged, the array of elections among them; the order of a ballot may not, nor a list of selections, nor a
 -- position that has no entry
 allowed_exchanges : (let t = tree_of small_ballot in
-    HasEntries t (Name (codes "Election") ∷ At 0 ∷ Name (codes "Contest") ∷ At 1 ∷ Name (codes "ContestSelection") ∷ []) 0 1 × ¬ HasEntries t (Name (codes "Election") ∷ At 0 ∷ Name (codes "BallotStyle") ∷ At 0 ∷ Name (codes "OrderedContent") ∷ []) 0 1
-    × ¬ HasEntries t (Name (codes "Election") ∷ At 0 ∷ Name (codes "BallotStyle") ∷ At 0 ∷ Name (codes "OrderedContent") ∷ At 0 ∷ Name (codes "OrderedContent") ∷ At 0 ∷ Name (codes "OrderedContestSelectionIds") ∷ []) 0 1
+    HasEntries t (Name (codes "Election") ∷ At 0 ∷ Name (codes "Contest") ∷ At 1 ∷ Name (codes "ContestSelection") ∷ []) 0 1
+    × ¬ HasEntries t (Name (codes "Election") ∷ At 0 ∷ Name (codes "BallotStyle") ∷ At 0 ∷ Name (codes "OrderedContent") ∷ []) 0 1
+    × ¬ HasEntries t (Name (codes "Election") ∷ At 0 ∷ Name (codes "BallotStyle") ∷ At 0 ∷ Name (codes "OrderedContent") ∷ At 0 ∷ Name (codes "OrderedContent")
+    ∷ At 0 ∷ Name (codes "OrderedContestSelectionIds") ∷ []) 0 1
     × HasEntries t (Name (codes "Election") ∷ []) 0 0 × ¬ HasEntries t (Name (codes "Election") ∷ []) 0 1)
 unfolding serde_json_on_literals
 allowed_exchanges = ((refl, lit< tt, lit< tt), λ h. true≢false (sym h.0), λ h. true≢false (sym h.0), (refl, lit< tt, lit< tt), λ h. absurd (omega (arith, h.2)))

@@ -1,5 +1,10 @@
 -- Whole reports that are rearrangements of one another, changes that are refused, and reports under two preferences.
-use Rattle.erd_normal.proofs.Common.{◌≡◌, Bool, true, ◌&&◌, and_parts, Data, tree_sound, is_same_json, is_tree, is_same_exact, ℕ, zero, suc, List, [], ◌∷◌, ◌++◌, map, length, if◌then◌else◌, ◌==◌, slice_get, Some, None, codes, Contains, Option, option_map, bytes_eq, unwrap_or, sym, refl, ap, true≢false, arith, lit<, bytes_eq-Decides, list_all, list_any, option_map_or, families, family, Step, At, Name, tree_of, small_ballot, small_ballot_canonical, one_unit, Placed, report_of, objects, id_of, IsDistinct, serde_json_on_literals, Renaming, Change, a_renaming, an_exchange, IsRearrangement, IsRenaming, is_some, no_fault_listed, IsTree, IsAccepted, Preference, meaning, ◌↔◌, faults_found, local_key, Key, placed_keys, SaysTheSame}
+use Rattle.erd_normal.proofs.Common.{◌≡◌, Bool, true, ◌&&◌, and_parts, Data, tree_sound, is_same_json, is_tree, is_same_exact, ℕ, zero, suc, List, [], ◌∷◌}
+use Rattle.erd_normal.proofs.Common.{◌++◌, map, length, if◌then◌else◌, ◌==◌, slice_get, Some, None, codes, Contains, Option, option_map, bytes_eq, unwrap_or}
+use Rattle.erd_normal.proofs.Common.{sym, refl, ap, true≢false, arith, lit<, bytes_eq-Decides, list_all, list_any, option_map_or, families, family, Step, At}
+use Rattle.erd_normal.proofs.Common.{Name, tree_of, small_ballot, small_ballot_canonical, one_unit, Placed, report_of, objects, id_of, IsDistinct}
+use Rattle.erd_normal.proofs.Common.{serde_json_on_literals, Renaming, Change, a_renaming, an_exchange, IsRearrangement, IsRenaming, is_some, no_fault_listed}
+use Rattle.erd_normal.proofs.Common.{IsTree, IsAccepted, Preference, meaning, ◌↔◌, faults_found, local_key, Key, placed_keys, SaysTheSame}
 use Rattle.std.proofs.lemmas.Map.Views.{Contains-from_any}
 use Rattle.erd_normal.proofs.lists.Lists.{passed, is_family}
 use Rattle.erd_meaning.proofs.identity.IdentityFaults.{identity_told}
@@ -41,7 +46,8 @@ abbrev are_among : List (List ℕ) → List Placed → Bool
 are_among texts os = list_all (λ o. option_map_or (λ id. list_any (bytes_eq id) texts) (id_of o.value) true) os
 
 -- a renaming, where no two of the pairs have one text on either side
-pub renaming : (t : Data) (pairs : Renaming) → list_all (λ f. are_among (map (λ pair. pair.0) pairs) (objects f t)) families ≡ true → IsDistinct bytes_eq (map (λ pair. pair.0) pairs) → IsDistinct bytes_eq (map (λ pair. pair.1) pairs) → IsRenaming t pairs
+pub renaming : (t : Data) (pairs : Renaming) → list_all (λ f. are_among (map (λ pair. pair.0) pairs) (objects f t)) families ≡ true
+    → IsDistinct bytes_eq (map (λ pair. pair.0) pairs) → IsDistinct bytes_eq (map (λ pair. pair.1) pairs) → IsRenaming t pairs
 renaming t pairs h left right = record {
   all = λ f o id stands is.
       let among = passed (λ o. option_map_or (λ id. list_any (bytes_eq id) (map (λ pair. pair.0) pairs)) (id_of o.value) true) (objects f t) o
@@ -58,7 +64,11 @@ new_name = (codes "u7", codes "k") ∷ []
 
 -- its `@id` and the reference to it are replaced
 renamed_unit : IsRearrangement (a_renaming new_name ∷ []) (tree_of one_unit)
-    (tree_of (codes "{\"@type\":\"ElectionResults.ElectionReport\",\"Status\":\"pre-election\",\"GpUnit\":[{\"@id\":\"k\",\"@type\":\"ElectionResults.ReportingUnit\",\"Type\":\"county\",\"ExternalIdentifier\":[{\"@type\":\"ElectionResults.ExternalIdentifier\",\"Type\":\"local-level\",\"Value\":\"U1\"}]}],\"Election\":[{\"@type\":\"ElectionResults.Election\",\"Name\":\"Test\",\"Type\":\"general\",\"StartDate\":\"2026-11-03\",\"EndDate\":\"2026-11-03\",\"ElectionScopeId\":\"k\"}]}"))
+    (tree_of (codes "{\"@type\":\"ElectionResults.ElectionReport\",\"Status\":\"pre-election\",\"GpUnit\":[{\"@id\":\"k\""
+    ++ codes ",\"@type\":\"ElectionResults.ReportingUnit\",\"Type\":\"county\""
+    ++ codes ",\"ExternalIdentifier\":[{\"@type\":\"ElectionResults.ExternalIdentifier\",\"Type\":\"local-level\",\"Value\":\"U1\"}]}]"
+    ++ codes ",\"Election\":[{\"@type\":\"ElectionResults.Election\",\"Name\":\"Test\",\"Type\":\"general\",\"StartDate\":\"2026-11-03\""
+    ++ codes ",\"EndDate\":\"2026-11-03\",\"ElectionScopeId\":\"k\"}]}"))
 unfolding serde_json_on_literals IsDistinct
 renamed_unit = (renaming (tree_of one_unit) new_name refl (tt, tt) (tt, tt), refl)
 
@@ -81,27 +91,32 @@ abbrev translations_place : ℕ → List Step
 translations_place i = selections_place 1 ++ At i ∷ Name (codes "Selection") ∷ Name (codes "Text") ∷ []
 
 -- the candidates of one selection exchanged
-exchanged_references : IsRearrangement (an_exchange (keys_place 0) 0 1 ∷ []) (tree_of small_ballot) (tree_of (edited (codes "[\"a6\",\"a5\"]") (codes "[\"a5\",\"a6\"]") small_ballot))
+exchanged_references : IsRearrangement (an_exchange (keys_place 0) 0 1 ∷ []) (tree_of small_ballot)
+    (tree_of (edited (codes "[\"a6\",\"a5\"]") (codes "[\"a5\",\"a6\"]") small_ballot))
 unfolding serde_json_on_literals
 exchanged_references = ((refl, lit< tt, lit< tt), refl)
 
 abbrev first_unit : List ℕ
-first_unit = codes "{\"@id\":\"a2\",\"@type\":\"ElectionResults.ReportingUnit\",\"ExternalIdentifier\":[{\"@type\":\"ElectionResults.ExternalIdentifier\",\"Type\":\"local-level\",\"Value\":\"U2\"}],\"Type\":\"precinct\"}"
+first_unit = codes "{\"@id\":\"a2\",\"@type\":\"ElectionResults.ReportingUnit\",\"ExternalIdentifier\":[{\"@type\":\"ElectionResults.ExternalIdentifier\""
+    ++ codes ",\"Type\":\"local-level\",\"Value\":\"U2\"}],\"Type\":\"precinct\"}"
 
 abbrev second_unit : List ℕ
-second_unit = codes "{\"@id\":\"a1\",\"@type\":\"ElectionResults.ReportingUnit\",\"ExternalIdentifier\":[{\"@type\":\"ElectionResults.ExternalIdentifier\",\"Type\":\"local-level\",\"Value\":\"U1\"}],\"Type\":\"county\",\"ComposingGpUnitIds\":[\"a2\"]}"
+second_unit = codes "{\"@id\":\"a1\",\"@type\":\"ElectionResults.ReportingUnit\",\"ExternalIdentifier\":[{\"@type\":\"ElectionResults.ExternalIdentifier\""
+    ++ codes ",\"Type\":\"local-level\",\"Value\":\"U1\"}],\"Type\":\"county\",\"ComposingGpUnitIds\":[\"a2\"]}"
 
 -- its units exchanged
-exchanged_units : IsRearrangement (an_exchange units_place 0 1 ∷ []) (tree_of small_ballot) (tree_of (edited (first_unit ++ codes "," ++ second_unit) (second_unit ++ codes "," ++ first_unit) small_ballot))
+exchanged_units : IsRearrangement (an_exchange units_place 0 1 ∷ []) (tree_of small_ballot)
+    (tree_of (edited (first_unit ++ codes "," ++ second_unit) (second_unit ++ codes "," ++ first_unit) small_ballot))
 unfolding serde_json_on_literals
 exchanged_units = ((refl, lit< tt, lit< tt), refl)
 
 -- the names of the canonical form
 abbrev pub canonical_names : Renaming
 canonical_names =
-    (codes "a1", codes "gp1") ∷ (codes "a2", codes "gp2") ∷ (codes "a3", codes "pa1") ∷ (codes "a4", codes "hd1") ∷ (codes "a5", codes "ca1") ∷ (codes "a6", codes "ca2") ∷ (codes "a7", codes "ca3")
-    ∷ (codes "a8", codes "co1") ∷ (codes "a9", codes "cs1-2") ∷ (codes "a10", codes "cs1-3") ∷ (codes "a11", codes "cs1-1") ∷ (codes "a12", codes "co2") ∷ (codes "a13", codes "cs2-2") ∷ (codes "a14", codes "cs2-1")
-    ∷ (codes "a16", codes "pe1") ∷ (codes "a17", codes "of1") ∷ []
+    (codes "a1", codes "gp1") ∷ (codes "a2", codes "gp2") ∷ (codes "a3", codes "pa1") ∷ (codes "a4", codes "hd1") ∷ (codes "a5", codes "ca1")
+    ∷ (codes "a6", codes "ca2") ∷ (codes "a7", codes "ca3")
+    ∷ (codes "a8", codes "co1") ∷ (codes "a9", codes "cs1-2") ∷ (codes "a10", codes "cs1-3") ∷ (codes "a11", codes "cs1-1") ∷ (codes "a12", codes "co2")
+    ∷ (codes "a13", codes "cs2-2") ∷ (codes "a14", codes "cs2-1") ∷ (codes "a16", codes "pe1") ∷ (codes "a17", codes "of1") ∷ []
 
 -- the canonical form with the envelope of the small ballot
 abbrev canonical_inside : List ℕ
@@ -112,7 +127,8 @@ canonical_inside =
 
 abbrev in_canonical_order : List Change
 in_canonical_order =
-    an_exchange units_place 0 1 ∷ an_exchange candidates_place 0 1 ∷ an_exchange candidates_place 1 2 ∷ an_exchange (selections_place 0) 0 2 ∷ an_exchange (selections_place 0) 1 2
+    an_exchange units_place 0 1 ∷ an_exchange candidates_place 0 1 ∷ an_exchange candidates_place 1 2 ∷ an_exchange (selections_place 0) 0 2
+    ∷ an_exchange (selections_place 0) 1 2
     ∷ an_exchange (keys_place 1) 0 1 ∷ an_exchange (selections_place 1) 0 1 ∷ an_exchange (translations_place 1) 0 1 ∷ []
 
 old_names_differ : IsDistinct bytes_eq (map (λ pair. pair.0) canonical_names)
@@ -126,8 +142,25 @@ new_names_differ = grind arith
 -- but for its envelope the canonical form is a rearrangement of the small ballot
 canonical_rearranged : IsRearrangement (a_renaming canonical_names ∷ in_canonical_order) (tree_of small_ballot) (tree_of canonical_inside)
 unfolding serde_json_on_literals
-canonical_rearranged =
-    (renaming (tree_of small_ballot) canonical_names refl old_names_differ new_names_differ, ((refl, lit< tt, lit< tt), ((refl, lit< tt, lit< tt), ((refl, lit< tt, lit< tt), ((refl, lit< tt, lit< tt), ((refl, lit< tt, lit< tt), ((refl, lit< tt, lit< tt), ((refl, lit< tt, lit< tt), ((refl, lit< tt, lit< tt), equal_trees _ (tree_of canonical_inside) refl)))))))))
+canonical_rearranged = (
+  renaming (tree_of small_ballot) canonical_names refl old_names_differ new_names_differ,
+  (
+    (refl, lit< tt, lit< tt),
+    (
+      (refl, lit< tt, lit< tt),
+      (
+        (refl, lit< tt, lit< tt),
+        (
+          (refl, lit< tt, lit< tt),
+          (
+            (refl, lit< tt, lit< tt),
+            ((refl, lit< tt, lit< tt), ((refl, lit< tt, lit< tt), ((refl, lit< tt, lit< tt), equal_trees _ (tree_of canonical_inside) refl))),
+          ),
+        ),
+      ),
+    ),
+  ),
+)
 
 -- ---- refused
 
@@ -164,7 +197,9 @@ ballot_exchanged : (u : Data) (cs : List Change) → IsRearrangement (an_exchang
 unfolding serde_json_on_literals
 ballot_exchanged u cs h = true≢false (sym h.0.0)
 
-selections_exchanged : (u : Data) (cs : List Change) → IsRearrangement (an_exchange (content_place ++ At 0 ∷ Name (codes "OrderedContent") ∷ At 0 ∷ Name (codes "OrderedContestSelectionIds") ∷ []) 0 1 ∷ cs) (tree_of small_ballot) u → ⊥
+selections_exchanged : (u : Data) (cs : List Change) → IsRearrangement
+    (an_exchange (content_place ++ At 0 ∷ Name (codes "OrderedContent") ∷ At 0 ∷ Name (codes "OrderedContestSelectionIds") ∷ []) 0 1 ∷ cs)
+    (tree_of small_ballot) u → ⊥
 unfolding serde_json_on_literals
 selections_exchanged u cs h = true≢false (sym h.0.0)
 
@@ -182,7 +217,11 @@ unchanged h = true≢false (ap (λ t. length (objects family.Unit t) == 1) h)
 -- the report of a unit with this `@id`, the number 20 in `fips` and this local identifier
 abbrev identified : List ℕ → List ℕ → Data
 identified id value =
-    tree_of (codes "{\"@type\":\"ElectionResults.ElectionReport\",\"Status\":\"pre-election\",\"GpUnit\":[{\"@id\":\"" ++ id ++ codes "\",\"@type\":\"ElectionResults.ReportingUnit\",\"Type\":\"county\",\"ExternalIdentifier\":[{\"@type\":\"ElectionResults.ExternalIdentifier\",\"Type\":\"fips\",\"Value\":\"20\"},{\"@type\":\"ElectionResults.ExternalIdentifier\",\"Type\":\"local-level\",\"Value\":\"" ++ value ++ codes "\"}]}],\"Election\":[{\"@type\":\"ElectionResults.Election\",\"Name\":\"Test\",\"Type\":\"general\",\"StartDate\":\"2026-11-03\",\"EndDate\":\"2026-11-03\",\"ElectionScopeId\":\"" ++ id ++ codes "\"}]}")
+    tree_of (codes "{\"@type\":\"ElectionResults.ElectionReport\",\"Status\":\"pre-election\",\"GpUnit\":[{\"@id\":\"" ++ id ++
+    codes "\",\"@type\":\"ElectionResults.ReportingUnit\",\"Type\":\"county\",\"ExternalIdentifier\":[{\"@type\":\"ElectionResults.ExternalIdentifier\""
+    ++ codes ",\"Type\":\"fips\",\"Value\":\"20\"},{\"@type\":\"ElectionResults.ExternalIdentifier\",\"Type\":\"local-level\",\"Value\":\"" ++ value ++
+    codes "\"}]}],\"Election\":[{\"@type\":\"ElectionResults.Election\",\"Name\":\"Test\",\"Type\":\"general\",\"StartDate\":\"2026-11-03\""
+    ++ codes ",\"EndDate\":\"2026-11-03\",\"ElectionScopeId\":\"" ++ id ++ codes "\"}]}")
 
 abbrev given : Data
 given = identified (codes "u7") (codes "U1")
@@ -203,7 +242,8 @@ fips_key = record { kind = codes "fips"; other = []; value = codes "20" }
 
 -- the least of all keys is that of `fips`; with the preference the key is the local one
 keys_of_reports : (map (placed_keys None family.Unit) (given ∷ renamed ∷ moved ∷ []) ≡ (Some fips_key ∷ []) ∷ (Some fips_key ∷ []) ∷ (Some fips_key ∷ []) ∷ [])
-    × (map (placed_keys local family.Unit) (given ∷ renamed ∷ moved ∷ []) ≡ (Some (local_key (codes "U1")) ∷ []) ∷ (Some (local_key (codes "U1")) ∷ []) ∷ (Some (local_key (codes "U2")) ∷ []) ∷ [])
+    × (map (placed_keys local family.Unit) (given ∷ renamed ∷ moved ∷ []) ≡ (Some (local_key (codes "U1")) ∷ []) ∷ (Some (local_key (codes "U1")) ∷ [])
+    ∷ (Some (local_key (codes "U2")) ∷ []) ∷ [])
 unfolding serde_json_on_literals
 keys_of_reports = (refl, refl)
 
@@ -216,8 +256,8 @@ record IsUnderBoth (t : Data) : Type 0 where
   also_accepted : IsAccepted local t
 
 -- a tree without faults under either preference
-given_by : (t : Data) → is_tree t ≡ true → length (faults_found t) ≡ 0 → length (identity_told None t) ≡ 0 → length (identity_told local t) ≡ 0 → length (reference_faults t) ≡ 0
-    → length (selections_told None t) ≡ 0 → length (selections_told local t) ≡ 0 → IsUnderBoth t
+given_by : (t : Data) → is_tree t ≡ true → length (faults_found t) ≡ 0 → length (identity_told None t) ≡ 0 → length (identity_told local t) ≡ 0
+    → length (reference_faults t) ≡ 0 → length (selections_told None t) ≡ 0 → length (selections_told local t) ≡ 0 → IsUnderBoth t
 given_by t tree shape identity local_identity reference selection local_selection = record {
   is_tree_at = tree_sound t tree;
   accepted = accepted_by_lists None t (tree_sound t tree) (no_fault_listed t tree shape) identity reference selection;

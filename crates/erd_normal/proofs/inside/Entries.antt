@@ -1,5 +1,8 @@
 -- The entries of arrays: what is asked of them, and that none of a set is equal to another.
-use Rattle.erd_normal.proofs.Common.{◌≡◌, ℕ, true, false, List, Some, sym, refl, ap, ◌∙◌, subst, Data, list_of_items, entries_of, IsTree, zero, suc, AllByRecursion, array, Items, no_items, item, get_item, At, Within-step, Within, entry_want, is_compared_set, asked, Want, is_empty_array, [], length, nil_from_length, Decides-eqb, ◌∷◌, true≢false, is_repeated, take, false_from_ne_true, IsDistinct, list_any, items_of, is_same_exact, list_of_items-items_of, is_same_json}
+use Rattle.erd_normal.proofs.Common.{◌≡◌, ℕ, true, false, List, Some, sym, refl, ap, ◌∙◌, subst, Data, list_of_items, entries_of, IsTree, zero, suc}
+use Rattle.erd_normal.proofs.Common.{AllByRecursion, array, Items, no_items, item, get_item, At, Within-step, Within, entry_want, is_compared_set, asked, Want}
+use Rattle.erd_normal.proofs.Common.{is_empty_array, [], length, nil_from_length, Decides-eqb, ◌∷◌, true≢false, is_repeated, take, false_from_ne_true}
+use Rattle.erd_normal.proofs.Common.{IsDistinct, list_any, items_of, is_same_exact, list_of_items-items_of, is_same_json}
 use Rattle.erd_normal.proofs.lists.Lists.{entry_holds}
 
 pub no_entry : (d : Data) → is_empty_array d ≡ true → entries_of d ≡ []

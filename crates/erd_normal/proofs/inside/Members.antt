@@ -1,5 +1,11 @@
 -- What stands under each name of members that are put in, or given one by one.
-use Rattle.erd_normal.proofs.Common.{◌≡◌, ℕ, true, false, List, Some, bytes_eq, sym, refl, ap, ◌∙◌, subst, Data, object, Members, get_member, kind_of_member, Class, MemberKind, text_exact, list_of_items, None, Option, option_map, option_and_then, Ordering, Equal, exact_bytes, option_map_or, match_ordering, no_members, member, text_cmp, IsTree, Preference, IsBeforeFirst, AreMembers, before_later, get_member-before, get_member-first, get_member-later, normal_members, normal_node_value, normal_content, normal_node_members, AllByRecursion, array, Items, [], ◌∷◌, if◌then◌else◌, true≢false, put, get_member-put, put_all, Less, Greater, nat_cmp, tied_itself, nat_list_cmp_total, slice_cmp, string, get_member-put_other, text_itself, array_of, unsigned, number, get_member-tree, put-trees}
+use Rattle.erd_normal.proofs.Common.{◌≡◌, ℕ, true, false, List, Some, bytes_eq, sym, refl, ap, ◌∙◌, subst, Data, object, Members, get_member, kind_of_member}
+use Rattle.erd_normal.proofs.Common.{Class, MemberKind, text_exact, list_of_items, None, Option, option_map, option_and_then, Ordering, Equal, exact_bytes}
+use Rattle.erd_normal.proofs.Common.{option_map_or, match_ordering, no_members, member, text_cmp, IsTree, Preference, IsBeforeFirst, AreMembers, before_later}
+use Rattle.erd_normal.proofs.Common.{get_member-before, get_member-first, get_member-later, normal_members, normal_node_value, normal_content}
+use Rattle.erd_normal.proofs.Common.{normal_node_members, AllByRecursion, array, Items, [], ◌∷◌, if◌then◌else◌, true≢false, put, get_member-put, put_all, Less}
+use Rattle.erd_normal.proofs.Common.{Greater, nat_cmp, tied_itself, nat_list_cmp_total, slice_cmp, string, get_member-put_other, text_itself, array_of}
+use Rattle.erd_normal.proofs.Common.{unsigned, number, get_member-tree, put-trees}
 use Rattle.erd_normal.proofs.lists.Lists.{array_of-tree, trees_listed}
 
 -- ---- the members of an object with a value put at a name: what stands at the other names, and two values put there in turn
@@ -11,12 +17,17 @@ put_elsewhere q k d ms other = get_member-put_other q k d ms (λ same. true≢fa
 
 -- the later of two values at a name stays
 pub put_twice : (k : List ℕ) (d e : Data) (ms : Members) → put k d (put k e ms) ≡ put k d ms
-put_twice k d e no_members = ap (λ o. match_ordering o (member k d (member k e no_members)) (member k d no_members) (member k e (put k d no_members))) (tied_itself nat_list_cmp_total k)
+put_twice k d e no_members = ap (λ o. match_ordering o (member k d (member k e no_members)) (member k d no_members) (member k e (put k d no_members)))
+    (tied_itself nat_list_cmp_total k)
 put_twice k d e (member l f ms) =
-    (elim (slice_cmp nat_cmp k l) as (λ o. slice_cmp nat_cmp k l ≡ o → put k d (match_ordering o (member k e (member l f ms)) (member l e ms) (member l f (put k e ms))) ≡ match_ordering o (member k d (member l f ms)) (member l d ms) (member l f (put k d ms))) [
-      | Less ↦ λ is. ap (λ o. match_ordering o (member k d (member k e (member l f ms))) (member k d (member l f ms)) (member k e (put k d (member l f ms)))) (tied_itself nat_list_cmp_total k)
+    (elim (slice_cmp nat_cmp k l) as (λ o. slice_cmp nat_cmp k l ≡ o
+    → put k d (match_ordering o (member k e (member l f ms)) (member l e ms) (member l f (put k e ms))) ≡ match_ordering o (member k d (member l f ms))
+    (member l d ms) (member l f (put k d ms))) [
+      | Less ↦ λ is. ap (λ o. match_ordering o (member k d (member k e (member l f ms))) (member k d (member l f ms)) (member k e (put k d (member l f ms))))
+          (tied_itself nat_list_cmp_total k)
       | Equal ↦ λ is. ap (λ o. match_ordering o (member k d (member l e ms)) (member l d ms) (member l e (put k d ms))) is
-      | Greater ↦ λ is. ap (λ o. match_ordering o (member k d (member l f (put k e ms))) (member l d (put k e ms)) (member l f (put k d (put k e ms)))) is ∙ ap (member l f) (put_twice k d e ms)
+      | Greater ↦ λ is. ap (λ o. match_ordering o (member k d (member l f (put k e ms))) (member l d (put k e ms)) (member l f (put k d (put k e ms)))) is
+          ∙ ap (member l f) (put_twice k d e ms)
     ]) refl
 
 -- ---- several values put at their names
@@ -32,7 +43,8 @@ put_value (p ∷ ps) name o = if bytes_eq name p.0 then Some p.1 else put_value 
 pub get_put_all : (ps : List Named) (name : List ℕ) (ms : Members) → get_member name (put_all ps ms) ≡ put_value ps name (get_member name ms)
 get_put_all [] name ms = refl
 get_put_all (p ∷ ps) name ms =
-    (elim (bytes_eq name p.0) as (λ b. bytes_eq name p.0 ≡ b → get_member name (put_all (p ∷ ps) ms) ≡ (if b then Some p.1 else put_value ps name (get_member name ms))) [
+    (elim (bytes_eq name p.0) as (λ b. bytes_eq name p.0 ≡ b → get_member name (put_all (p ∷ ps) ms)
+    ≡ (if b then Some p.1 else put_value ps name (get_member name ms))) [
       | true ↦ λ is. ap (λ x. get_member x (put p.0 p.1 (put_all ps ms))) (text_exact name p.0 is) ∙ get_member-put p.0 p.1 (put_all ps ms)
       | false ↦ λ is. put_elsewhere name p.0 p.1 (put_all ps ms) is ∙ get_put_all ps name ms
     ]) refl
@@ -44,9 +56,10 @@ abbrev pub each_member : (List ℕ → Data → Option Data) → Members → Mem
 each_member value no_members = no_members
 each_member value (member k d ms) = option_map_or (λ v. member k v (each_member value ms)) (value k d) (each_member value ms)
 
-get_each_at : (value : List ℕ → Data → Option Data) (name l : List ℕ) (d : Data) (ms rest : Members) (o : Ordering) (r : Option Data) → text_cmp name l ≡ o → value l d ≡ r
-    → AreMembers (member l d ms) → get_member name rest ≡ option_and_then (value name) (get_member name ms)
-    → get_member name (option_map_or (λ v. member l v rest) r rest) ≡ option_and_then (value name) (match_ordering o (get_member name ms) (Some d) (get_member name ms))
+get_each_at : (value : List ℕ → Data → Option Data) (name l : List ℕ) (d : Data) (ms rest : Members) (o : Ordering) (r : Option Data)
+    → text_cmp name l ≡ o → value l d ≡ r → AreMembers (member l d ms) → get_member name rest ≡ option_and_then (value name) (get_member name ms)
+    → get_member name (option_map_or (λ v. member l v rest) r rest) ≡ option_and_then (value name)
+    (match_ordering o (get_member name ms) (Some d) (get_member name ms))
 get_each_at value name l d ms rest Equal None is given rise later =
     let same : name ≡ l = exact_bytes name l is in
     let none : get_member name ms ≡ None = ap (λ x. get_member x ms) same ∙ get_member-before l ms rise.2 rise.0 in
@@ -57,7 +70,8 @@ get_each_at value name l d ms rest Equal (Some v) is given rise later =
 get_each_at value name l d ms rest o None is given rise later = later
 get_each_at value name l d ms rest o (Some v) is given rise later = rw is later
 
-pub get_each : (value : List ℕ → Data → Option Data) (name : List ℕ) (ms : Members) → AreMembers ms → get_member name (each_member value ms) ≡ option_and_then (value name) (get_member name ms)
+pub get_each : (value : List ℕ → Data → Option Data) (name : List ℕ) (ms : Members) → AreMembers ms → get_member name (each_member value ms)
+    ≡ option_and_then (value name) (get_member name ms)
 get_each value name no_members rise = refl
 get_each value name (member l d ms) rise =
     get_each_at value name l d ms (each_member value ms) (text_cmp name l) (value l d) refl refl rise (get_each value name ms rise.2)
@@ -65,7 +79,8 @@ get_each value name (member l d ms) rise =
 before_each : (value : List ℕ → Data → Option Data) (k : List ℕ) (ms : Members) → AreMembers ms → IsBeforeFirst k ms → IsBeforeFirst k (each_member value ms)
 before_each value k no_members rise below = tt
 before_each value k (member l d ms) rise below =
-    elim (value l d) as (λ r. IsBeforeFirst k (option_map_or (λ v. member l v (each_member value ms)) r (each_member value ms))) [ None ↦ before_each value k ms rise.2 (before_later k l ms below rise.0) | Some v ↦ below ]
+    elim (value l d) as (λ r. IsBeforeFirst k (option_map_or (λ v. member l v (each_member value ms)) r (each_member value ms)))
+    [ None ↦ before_each value k ms rise.2 (before_later k l ms below rise.0) | Some v ↦ below ]
 
 pub trees_of_each : (value : List ℕ → Data → Option Data) (ms : Members) → AreMembers ms
     → ((name : List ℕ) (d v : Data) → get_member name ms ≡ Some d → IsTree d → value name d ≡ Some v → IsTree v) → AreMembers (each_member value ms)

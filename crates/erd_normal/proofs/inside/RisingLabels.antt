@@ -1,5 +1,9 @@
 -- Labels: the array of their translations, also in rising order.
-use Rattle.erd_normal.proofs.Common.{◌≡◌, ℕ, Bool, true, false, List, Some, codes, bytes_eq, refl, ap, ◌∙◌, subst, Data, object, Members, get_member, role_of_class, Class, class, role, kind, list_of_items, entries_of, entries_at, None, Option, option_and_then, option_map_or, IsTree, AllByRecursion, array, Items, array_from, wanted_within, lacks_none, member_within, Within, ShapeFault, NoneOf, asked, Member, of_label, classed, Classed, [], get_member-put, get, rising_list, compact_cmp, with_rising_text, is_object, array_of, all_rising, class_of_object, as_str, class_in_role, get_member-tree, put-trees}
+use Rattle.erd_normal.proofs.Common.{◌≡◌, ℕ, Bool, true, false, List, Some, codes, bytes_eq, refl, ap, ◌∙◌, subst, Data, object, Members, get_member}
+use Rattle.erd_normal.proofs.Common.{role_of_class, Class, class, role, kind, list_of_items, entries_of, entries_at, None, Option, option_and_then}
+use Rattle.erd_normal.proofs.Common.{option_map_or, IsTree, AllByRecursion, array, Items, array_from, wanted_within, lacks_none, member_within, Within}
+use Rattle.erd_normal.proofs.Common.{ShapeFault, NoneOf, asked, Member, of_label, classed, Classed, [], get_member-put, get, rising_list, compact_cmp}
+use Rattle.erd_normal.proofs.Common.{with_rising_text, is_object, array_of, all_rising, class_of_object, as_str, class_in_role, get_member-tree, put-trees}
 use Rattle.erd_normal.proofs.inside.Members.{put_elsewhere}
 use Rattle.erd_normal.proofs.lists.Lists.{array_of-tree, trees_listed}
 
@@ -14,17 +18,20 @@ pub label_texts : (t : Data) → NoneOf (ShapeFault t) → (r : Bool) (ms : Memb
 label_texts t clean r ms w =
     let cl : Classed role.Label (object ms) = classed t clean (Member kind.Label r) role.Label (object ms) of_label refl w in
     let is : cl.class ≡ class.InternationalizedText = label_class cl.class cl.role in
-    (elim (get_member (codes "Text") ms) as (λ o. get_member (codes "Text") ms ≡ o → (texts : Items) × (get_member (codes "Text") ms ≡ Some (array texts)) × Within t (asked (Member kind.Languages true) (array texts))) [
+    (elim (get_member (codes "Text") ms) as (λ o. get_member (codes "Text") ms ≡ o → (texts : Items) × (get_member (codes "Text") ms ≡ Some (array texts))
+    × Within t (asked (Member kind.Languages true) (array texts))) [
       | None ↦ λ e. absurd (lacks_none t clean (asked (Member kind.Label r) (object ms)) (codes "Text") w (rw (cl.text, is) refl) e)
       | Some v ↦ λ e.
-          let inside : Within t (asked (Member kind.Languages true) v) = member_within t clean (Member kind.Label r) role.Label ms class.InternationalizedText (codes "Text") v of_label (cl.among ∙ ap Some is) refl w e in
+          let inside : Within t (asked (Member kind.Languages true) v) = member_within t clean (Member kind.Label r) role.Label ms class.InternationalizedText
+          (codes "Text") v of_label (cl.among ∙ ap Some is) refl w e in
           let ds = array_from v (wanted_within t clean (asked (Member kind.Languages true) v) inside) in
           (ds.0, e ∙ ap Some ds.1, subst (λ x. Within t (asked (Member kind.Languages true) x)) ds.1 inside)
     ]) refl
 
 -- ---- the label with its translations in rising order
 
-pub get_label-text : (d : Data) → is_object d ≡ true → get (codes "Text") (with_rising_text d) ≡ Some (array_of (rising_list compact_cmp (entries_at (codes "Text") d)))
+pub get_label-text : (d : Data) → is_object d ≡ true → get (codes "Text") (with_rising_text d)
+    ≡ Some (array_of (rising_list compact_cmp (entries_at (codes "Text") d)))
 get_label-text (object ms) is = get_member-put (codes "Text") (array_of (rising_list compact_cmp (entries_at (codes "Text") (object ms)))) ms
 get_label-text d is = cc
 
@@ -52,7 +59,8 @@ pub record BuiltLabel (t : Data) (ms : Members) : Type 0 where
   pub among : class_of_object role.Label (with_rising_text (object ms)) ≡ Some class.InternationalizedText
   pub stands : get (codes "Text") (with_rising_text (object ms)) ≡ Some (array_of (rising_list compact_cmp (list_of_items texts)))
 
-pub built_label : (t : Data) → NoneOf (ShapeFault t) → (required : Bool) (ms : Members) → Within t (asked (Member kind.Label required) (object ms)) → BuiltLabel t ms
+pub built_label : (t : Data) → NoneOf (ShapeFault t) → (required : Bool) (ms : Members)
+    → Within t (asked (Member kind.Label required) (object ms)) → BuiltLabel t ms
 built_label t clean required ms w =
     let texts = label_texts t clean required ms w in
     let cl : Classed role.Label (object ms) = classed t clean (Member kind.Label required) role.Label (object ms) of_label refl w in

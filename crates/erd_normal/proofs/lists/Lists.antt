@@ -1,5 +1,15 @@
 -- Lists: what passes a test, what is built entry by entry, ranks, numbers and rising order.
-use Rattle.erd_normal.proofs.Common.{◌≡◌, zero, suc, Bool, true, false, List, [], ◌∷◌, ◌++◌, Contains, flat_map, sym, refl, ap, ◌∙◌, subst, append_assoc, append-nil, arith, lit<, and_parts, list_all, families, family_number, Family, family, IsDistinct, In, In-all, In-append_left, all_from_In, inl, inr, ℕ, ◌≤◌, map, length, if◌then◌else◌, ◌==◌, Some, None, Option, ap₂, same_Some, AllByRecursion, Data, array, Items, no_items, item, get_item, items_of, IsTree, list_of_items, entries_of, depth, is_array, is_empty_array, AreTrees, items_depth, list_of_items-items_of, unless_no_entry, array_of, cond, filter, is_lt, is_gt, Ordering, Less, Equal, Greater, true≢false, IsTotalOrder, all_weakened, with_inserted, rising_list, NeverFalls, rising_never_falls, In-filter, ◌<◌, tied_itself, less, greater_turned, ◌+◌, ◌⊎◌, slice_get, option_map, length-map, slice_get-map, enumerate_from, IsPermutation, IsSorted, option_and_then, nat_cmp, nat_cmp_total, CmpEqualImpliesEq, exact_unsigned, ordering_reverse, as_str, key_cmp, Preference, key_named, keys_named, key_cmp_total, key_cmp_exact, ranked, by_ranked, alike_right, reordered_rising, whole-reordered, rising_from_sort, inserted_exchange, IsPermutation-map, IsPermutation-sym, IsPermutation-trans, reordered_kept}
+use Rattle.erd_normal.proofs.Common.{◌≡◌, zero, suc, Bool, true, false, List, [], ◌∷◌, ◌++◌, Contains, flat_map, sym, refl, ap, ◌∙◌, subst, append_assoc}
+use Rattle.erd_normal.proofs.Common.{append-nil, arith, lit<, and_parts, list_all, families, family_number, Family, family, IsDistinct, In, In-all}
+use Rattle.erd_normal.proofs.Common.{In-append_left, all_from_In, inl, inr, ℕ, ◌≤◌, map, length, if◌then◌else◌, ◌==◌, Some, None, Option, ap₂, same_Some}
+use Rattle.erd_normal.proofs.Common.{AllByRecursion, Data, array, Items, no_items, item, get_item, items_of, IsTree, list_of_items, entries_of, depth, is_array}
+use Rattle.erd_normal.proofs.Common.{is_empty_array, AreTrees, items_depth, list_of_items-items_of, unless_no_entry, array_of, cond, filter, is_lt, is_gt}
+use Rattle.erd_normal.proofs.Common.{Ordering, Less, Equal, Greater, true≢false, IsTotalOrder, all_weakened, with_inserted, rising_list, NeverFalls}
+use Rattle.erd_normal.proofs.Common.{rising_never_falls, In-filter, ◌<◌, tied_itself, less, greater_turned, ◌+◌, ◌⊎◌, slice_get, option_map, length-map}
+use Rattle.erd_normal.proofs.Common.{slice_get-map, enumerate_from, IsPermutation, IsSorted, option_and_then, nat_cmp, nat_cmp_total, CmpEqualImpliesEq}
+use Rattle.erd_normal.proofs.Common.{exact_unsigned, ordering_reverse, as_str, key_cmp, Preference, key_named, keys_named, key_cmp_total, key_cmp_exact, ranked}
+use Rattle.erd_normal.proofs.Common.{by_ranked, alike_right, reordered_rising, whole-reordered, rising_from_sort, inserted_exchange, IsPermutation-map}
+use Rattle.erd_normal.proofs.Common.{IsPermutation-sym, IsPermutation-trans, reordered_kept}
 use Rattle.erd_text.proofs.RisingOrders.{more_pass, no_fewer}
 use Rattle.erd_meaning.proofs.selections.ContestSelections.{get_first, get_later, within_or_after}
 
@@ -48,7 +58,8 @@ pub is_family : (f : Family) → Contains families f
 is_family family.Unit = (0, lit< tt, refl)
 is_family f = (family_number f, lit< tt, refl)
 
-pub all_map : {A : Type 0} {B : Type 0} (P : A → Type 0) (Q : B → Type 0) (f : A → B) (xs : List A) → ((x : A) → P x → Q (f x)) → AllByRecursion P xs → AllByRecursion Q (map f xs)
+pub all_map : {A : Type 0} {B : Type 0} (P : A → Type 0) (Q : B → Type 0) (f : A → B) (xs : List A) → ((x : A) → P x → Q (f x)) → AllByRecursion P xs
+    → AllByRecursion Q (map f xs)
 all_map P Q f [] each all = tt
 all_map P Q f (x ∷ xs) each all = (each x all.0, all_map P Q f xs each all.1)
 
@@ -96,7 +107,8 @@ as_empty d es is same = cc
 
 -- what is given is the value, and the array is not empty
 pub given_unless : (d v v' : Data) → unless_no_entry d v ≡ Some v' → (is_empty_array d ≡ false) × (v ≡ v')
-given_unless d v v' = elim (is_empty_array d) as (λ b. (if b then None else Some v) ≡ Some v' → (b ≡ false) × (v ≡ v')) [ true ↦ λ e. cc | false ↦ λ e. (refl, same_Some v v' e) ]
+given_unless d v v' = elim (is_empty_array d) as (λ b. (if b then None else Some v) ≡ Some v' → (b ≡ false) × (v ≡ v'))
+    [ true ↦ λ e. cc | false ↦ λ e. (refl, same_Some v v' e) ]
 
 -- the entries of an array make it again
 pub items_again : (ds : Items) → items_of (list_of_items ds) ≡ ds
@@ -111,7 +123,8 @@ module _ {A : Type 0} {cmp : A → A → Ordering} (order : IsTotalOrder cmp) wh
   stands_first x [] all = refl
   stands_first x (y ∷ ys) all = rw all.0 refl
 
-  none_below : (x y : A) (zs : List A) → is_lt (cmp y x) ≡ false → AllByRecursion (λ z. is_gt (cmp y z) ≡ false) zs → AllByRecursion (λ z. is_lt (cmp z x) ≡ false) zs
+  none_below : (x y : A) (zs : List A) → is_lt (cmp y x) ≡ false → AllByRecursion (λ z. is_gt (cmp y z) ≡ false) zs
+      → AllByRecursion (λ z. is_lt (cmp z x) ≡ false) zs
   none_below x y zs low rise = all_weakened (λ z. is_gt (cmp y z) ≡ false) (λ z. is_lt (cmp z x) ≡ false) zs (λ z h. at z (cmp z x) (cmp y z) refl refl h) rise
     where
       at : (z : A) (o p : Ordering) → cmp z x ≡ o → cmp y z ≡ p → is_gt p ≡ false → is_lt (cmp z x) ≡ false
@@ -120,7 +133,8 @@ module _ {A : Type 0} {cmp : A → A → Ordering} (order : IsTotalOrder cmp) wh
       at z Less Greater e f h = cc
       at z d p e f h = ap is_lt e
 
-  kept_inserted : (q : A → Bool) (x : A) (ys : List A) → NeverFalls cmp ys → filter q (with_inserted cmp x ys) ≡ cond (q x) (with_inserted cmp x (filter q ys)) (filter q ys)
+  kept_inserted : (q : A → Bool) (x : A) (ys : List A) → NeverFalls cmp ys → filter q (with_inserted cmp x ys)
+      ≡ cond (q x) (with_inserted cmp x (filter q ys)) (filter q ys)
   kept_inserted q x [] rise = refl
   kept_inserted q x (y ∷ ys) rise = at (is_lt (cmp y x)) refl (kept_inserted q x ys rise.1)
     where
@@ -134,14 +148,17 @@ module _ {A : Type 0} {cmp : A → A → Ordering} (order : IsTotalOrder cmp) wh
       at : (low : Bool) → is_lt (cmp y x) ≡ low → filter q (with_inserted cmp x ys) ≡ cond (q x) (with_inserted cmp x (filter q ys)) (filter q ys)
           → filter q (cond low (y ∷ with_inserted cmp x ys) (x ∷ (y ∷ ys))) ≡ cond (q x) (with_inserted cmp x (filter q (y ∷ ys))) (filter q (y ∷ ys))
       at true is more = lower (q x) (q y) (filter q (with_inserted cmp x ys)) (filter q ys) is more
-      at false is more = ap (λ zs. cond (q x) zs (filter q (y ∷ ys))) (sym (stands_first x (filter q (y ∷ ys)) (all_from_In (λ z. is_lt (cmp z x) ≡ false) (filter q (y ∷ ys)) (λ z h. In-all (λ z. is_lt (cmp z x) ≡ false) z (y ∷ ys) (is, none_below x y ys is rise.0) (In-filter q z (y ∷ ys) h).0))))
+      at false is more = ap (λ zs. cond (q x) zs (filter q (y ∷ ys)))
+          (sym (stands_first x (filter q (y ∷ ys))
+          (all_from_In (λ z. is_lt (cmp z x) ≡ false) (filter q (y ∷ ys))
+          (λ z h. In-all (λ z. is_lt (cmp z x) ≡ false) z (y ∷ ys) (is, none_below x y ys is rise.0) (In-filter q z (y ∷ ys) h).0))))
 
   pub filter_rising : (q : A → Bool) (xs : List A) → filter q (rising_list cmp xs) ≡ rising_list cmp (filter q xs)
   filter_rising q [] = refl
   filter_rising q (x ∷ xs) =
-      kept_inserted q x (rising_list cmp xs) (rising_never_falls order xs)
-      ∙ ap (λ ys. cond (q x) (with_inserted cmp x ys) ys) (filter_rising q xs)
-      ∙ elim (q x) as (λ b. cond b (with_inserted cmp x (rising_list cmp (filter q xs))) (rising_list cmp (filter q xs)) ≡ rising_list cmp (cond b (x ∷ filter q xs) (filter q xs))) [ true ↦ refl | false ↦ refl ]
+      kept_inserted q x (rising_list cmp xs) (rising_never_falls order xs) ∙ ap (λ ys. cond (q x) (with_inserted cmp x ys) ys) (filter_rising q xs)
+      ∙ elim (q x) as (λ b. cond b (with_inserted cmp x (rising_list cmp (filter q xs))) (rising_list cmp (filter q xs))
+      ≡ rising_list cmp (cond b (x ∷ filter q xs) (filter q xs))) [ true ↦ refl | false ↦ refl ]
 
 -- ---- the rank of a key in a list: how many entries have lesser keys, wherever they stand. Ranks tell the keys of entries apart
 
@@ -158,7 +175,8 @@ all_pass (x ∷ xs) = ap suc (all_pass xs)
 module _ {A K : Type 0} (key : A → K) {cmp : K → K → Ordering} (order : IsTotalOrder cmp) (xs : List A) where
   rank_rises : (x : A) (k : K) → In x xs → cmp (key x) k ≡ Less → rank_by key cmp (key x) xs < rank_by key cmp k xs
   rank_rises x k h below =
-      more_pass (λ y. is_lt (cmp (key y) (key x))) (λ y. is_lt (cmp (key y) k)) (λ y e. ap is_lt (order.trans (key y) (key x) k (less (cmp (key y) (key x)) e) below))
+      more_pass (λ y. is_lt (cmp (key y) (key x))) (λ y. is_lt (cmp (key y) k))
+      (λ y e. ap is_lt (order.trans (key y) (key x) k (less (cmp (key y) (key x)) e) below))
       x xs (ap is_lt (tied_itself order (key x))) (ap is_lt below) h
 
   -- the rank of an entry is below the number of entries
@@ -184,7 +202,8 @@ pub kept_map : {A B : Type 0} (f : A → B) (q : B → Bool) (xs : List A) → f
 kept_map f q [] = refl
 kept_map f q (x ∷ xs) =
     let more = kept_map f q xs in
-    elim (q (f x)) as (λ b. cond b (f x ∷ filter q (map f xs)) (filter q (map f xs)) ≡ map f (cond b (x ∷ filter (λ x. q (f x)) xs) (filter (λ x. q (f x)) xs))) [ true ↦ ap (λ ys. f x ∷ ys) more | false ↦ more ]
+    elim (q (f x)) as (λ b. cond b (f x ∷ filter q (map f xs)) (filter q (map f xs)) ≡ map f (cond b (x ∷ filter (λ x. q (f x)) xs) (filter (λ x. q (f x)) xs)))
+    [ true ↦ ap (λ ys. f x ∷ ys) more | false ↦ more ]
 
 -- an entry and its number
 pub numbered_stands : {A : Type 0} (n : ℕ) (xs : List A) (o : ℕ × A) → In o (enumerate_from n xs) → (i : ℕ) × (o.0 ≡ i + n) × (slice_get xs i ≡ Some o.1)
@@ -223,7 +242,8 @@ module _ {A B C : Type 0} (f : A → List B) (g : A → List C) where
     pub there : slice_get (g one) inner ≡ Some o
     pub same : slice_get (flat_map f cs) i ≡ slice_get (f one) inner
 
-  pub in_part : ((x : A) → length (f x) ≡ length (g x)) → (cs : List A) (k i n : ℕ) (o : C) → slice_get (flat_map numbered_part (enumerate_from k cs)) i ≡ Some (n, o) → InPart cs k i n o
+  pub in_part : ((x : A) → length (f x) ≡ length (g x)) → (cs : List A) (k i n : ℕ) (o : C) → slice_get (flat_map numbered_part (enumerate_from k cs)) i
+      ≡ Some (n, o) → InPart cs k i n o
   in_part long [] k i n o e = absurd (cc)
   in_part long (c ∷ cs) k i n o e = at (in_part long cs (k + 1)) (within_or_after (length (f c)) i)
     where
@@ -242,7 +262,15 @@ module _ {A B C : Type 0} (f : A → List B) (g : A → List C) where
           let here = get_later (numbered_part (k, c)) (flat_map numbered_part (enumerate_from (k + 1) cs)) i r.0 (r.1 ∙ ap (λ m. m + r.0) (sym row)) in
           let later = rest r.0 n o (sym here ∙ e) in
           let count : (k + 1) + later.index ≡ k + suc later.index = omega arith in
-          record { one = later.one; index = suc later.index; after = later.after ∙ count; at = later.at; inner = later.inner; there = later.there; same = get_later (f c) (flat_map f cs) i r.0 r.1 ∙ later.same }
+          record {
+            one = later.one;
+            index = suc later.index;
+            after = later.after ∙ count;
+            at = later.at;
+            inner = later.inner;
+            there = later.there;
+            same = get_later (f c) (flat_map f cs) i r.0 r.1 ∙ later.same;
+          }
 
 -- ---- a list in the order of an exact comparison is the same, in whichever order its entries came
 
@@ -250,7 +278,8 @@ module _ {A : Type 0} {cmp : A → A → Ordering} (order : IsTotalOrder cmp) (e
   pub rising-reordered : {xs ys : List A} → IsPermutation xs ys → rising_list cmp xs ≡ rising_list cmp ys
   rising-reordered h = whole-reordered (rising_list cmp) (with_inserted cmp) (λ x xs. refl) (inserted_exchange order exact) h
 
-pub rising_keys_named-reordered : (π : Preference) (t : Data) (f : Family) {ds es : List Data} → IsPermutation ds es → rising_list key_cmp (keys_named π t f ds) ≡ rising_list key_cmp (keys_named π t f es)
+pub rising_keys_named-reordered : (π : Preference) (t : Data) (f : Family) {ds es : List Data} → IsPermutation ds es → rising_list key_cmp (keys_named π t f ds)
+    ≡ rising_list key_cmp (keys_named π t f es)
 rising_keys_named-reordered π t f h = rising-reordered key_cmp_total key_cmp_exact (reordered_kept (λ r. option_and_then (key_named π t f) (as_str r)) h)
 
 -- ---- a list that never falls is in order
@@ -273,7 +302,8 @@ module _ {A : Type 0} {cmp : A → A → Ordering} (order : IsTotalOrder cmp) wh
 not_above : (m n : ℕ) → m ≤ n → is_gt (nat_cmp m n) ≡ false
 not_above m n low = by_ranked (m < n) (m ≡ n) (n < m) (nat_cmp m n) (ranked m n _ refl) (λ e _. ap is_gt e) (λ e _. ap is_gt e) (λ _ l. absurd (omega arith))
 
-module _ {A : Type 0} {cmp : A → A → Ordering} (order : IsTotalOrder cmp) (number : A → ℕ) (climbs : (a b : A) → is_gt (cmp a b) ≡ false → number a ≤ number b) where
+module _ {A : Type 0} {cmp : A → A → Ordering} (order : IsTotalOrder cmp) (number : A → ℕ)
+    (climbs : (a b : A) → is_gt (cmp a b) ≡ false → number a ≤ number b) where
   numbers_never_fall : (xs : List A) → NeverFalls cmp xs → NeverFalls nat_cmp (map number xs)
   numbers_never_fall [] h = tt
   numbers_never_fall (x ∷ xs) h = (
@@ -286,8 +316,7 @@ module _ {A : Type 0} {cmp : A → A → Ordering} (order : IsTotalOrder cmp) (n
   numbers_in_order xs ns same sorted =
       let all : IsPermutation ns (map number (rising_list cmp xs)) =
       IsPermutation-trans _ _ _ (IsPermutation-sym _ _ same) (IsPermutation-map number _ _ (reordered_rising cmp xs)) in
-      rising_from_sort nat_cmp nat_cmp_total ns ns sorted (λ z. refl)
-      ∙ (rising-reordered nat_cmp_total exact_unsigned all
+      rising_from_sort nat_cmp nat_cmp_total ns ns sorted (λ z. refl) ∙ (rising-reordered nat_cmp_total exact_unsigned all
       ∙ stays nat_cmp_total (map number (rising_list cmp xs)) (numbers_never_fall (rising_list cmp xs) (rising_never_falls order xs)))
 
 -- ---- ranks
@@ -299,5 +328,6 @@ module _ {K X : Type 0} {cmp : K → K → Ordering} (order : IsTotalOrder cmp) 
   below_too_at k l x Greater is low below = cc
 
   -- how many have lesser keys never falls along the order of keys
-  pub ranks_climb : (k l : K) (xs : List X) → is_gt (cmp k l) ≡ false → length (filter (λ x. is_lt (cmp (key x) k)) xs) ≤ length (filter (λ x. is_lt (cmp (key x) l)) xs)
+  pub ranks_climb : (k l : K) (xs : List X) → is_gt (cmp k l) ≡ false → length (filter (λ x. is_lt (cmp (key x) k)) xs) ≤ length
+      (filter (λ x. is_lt (cmp (key x) l)) xs)
   ranks_climb k l xs low = no_fewer (λ x. is_lt (cmp (key x) k)) (λ x. is_lt (cmp (key x) l)) (λ x. below_too_at k l x (cmp k l) refl low) xs

@@ -1,5 +1,14 @@
 -- Parts that are filled in turn, and what a reference becomes by the rank of what it names.
-use Rattle.erd_normal.proofs.Common.{◌≡◌, ℕ, zero, suc, ◌+◌, ◌<◌, ◌≤◌, true, false, cond, List, [], ◌∷◌, ◌++◌, map, length, get_or, get_or as slice_index_or, take, ◌==◌, slice_get, slice_set, Some, None, filter, Option, option_map, unwrap_or, sym, refl, ap, ◌∙◌, subst, true≢false, append-nil, arith, Decides-eqb, take_more, filter-append, slice_get-map, slice_get_past, option_map_or, Global, Vec, is_none, if◌then◌else◌, option_and_then, is_lt, is_gt, options_total, option_cmp, Data, family_number, Family, family, IsAccepted, has_keys, key_cmp, Preference, key_of, key_in, rank_of, id_in, FindsId, Placed, objects, id_of, owner, key_named, key_cmp_total, text_of, owner_is, owned_by, in_at, with_part, position_of, Key, id_of_rank, normal_id, reference_cmp, rank_named, codes, find, ap₂, string, entries_at, selection_in, NameParts, contests, selections_of_contest, numbered_selections, has_id, name_of, find-Some, option_map-Some, stands, one_object, has_id-Some, canonical_selection_id, rank_of_name, id_of_selection, contest_with, selection_with, normal_selection_reference, AreSelectionRanks, In, In-flat_map}
+use Rattle.erd_normal.proofs.Common.{◌≡◌, ℕ, zero, suc, ◌+◌, ◌<◌, ◌≤◌, true, false, cond, List, [], ◌∷◌, ◌++◌, map, length, get_or, get_or as slice_index_or}
+use Rattle.erd_normal.proofs.Common.{take, ◌==◌, slice_get, slice_set, Some, None, filter, Option, option_map, unwrap_or, sym, refl, ap, ◌∙◌, subst, true≢false}
+use Rattle.erd_normal.proofs.Common.{append-nil, arith, Decides-eqb, take_more, filter-append, slice_get-map, slice_get_past, option_map_or, Global, Vec}
+use Rattle.erd_normal.proofs.Common.{is_none, if◌then◌else◌, option_and_then, is_lt, is_gt, options_total, option_cmp, Data, family_number, Family, family}
+use Rattle.erd_normal.proofs.Common.{IsAccepted, has_keys, key_cmp, Preference, key_of, key_in, rank_of, id_in, FindsId, Placed, objects, id_of, owner}
+use Rattle.erd_normal.proofs.Common.{key_named, key_cmp_total, text_of, owner_is, owned_by, in_at, with_part, position_of, Key, id_of_rank, normal_id}
+use Rattle.erd_normal.proofs.Common.{reference_cmp, rank_named, codes, find, ap₂, string, entries_at, selection_in, NameParts, contests, selections_of_contest}
+use Rattle.erd_normal.proofs.Common.{numbered_selections, has_id, name_of, find-Some, option_map-Some, stands, one_object, has_id-Some, canonical_selection_id}
+use Rattle.erd_normal.proofs.Common.{rank_of_name, id_of_selection, contest_with, selection_with, normal_selection_reference, AreSelectionRanks, In}
+use Rattle.erd_normal.proofs.Common.{In-flat_map}
 use Rattle.std.proofs.lemmas.Option.{slice_get-get_or}
 use Rattle.erd_meaning.proofs.identity.ObjectFamilies.{family_exact, itself}
 use Rattle.erd_meaning.proofs.finding.OneObject.{ObjectIn}
@@ -20,7 +29,8 @@ list_set items [] i new low = absurd (omega arith)
 list_set items (p ∷ lists) zero new low = refl
 list_set items (p ∷ lists) (suc i) new low = list_set items lists i new (omega arith)
 
-pub list_kept : {T A : Type 0} (items : T → List A) (lists : List T) (i j : ℕ) (new : T) → (j ≡ i → ⊥) → in_list items (slice_set lists i new) j ≡ in_list items lists j
+pub list_kept : {T A : Type 0} (items : T → List A) (lists : List T) (i j : ℕ) (new : T) → (j ≡ i → ⊥) → in_list items (slice_set lists i new) j
+    ≡ in_list items lists j
 list_kept items [] zero j new other = refl
 list_kept items [] (suc i) j new other = refl
 list_kept items (p ∷ lists) zero zero new other = absurd (other refl)
@@ -41,11 +51,11 @@ or_none f None = refl
 or_none f (Some x) = refl
 
 -- the lists that a list gives
-pub lists_given : {A B : Type 0} (lists : List (Vec B Global)) (f : A → List B) (xs : List A) (i : ℕ) → map (λ list. list.items) lists ≡ map f xs → in_list (λ list. list.items) lists i ≡ option_map_or f (slice_get xs i) []
+pub lists_given : {A B : Type 0} (lists : List (Vec B Global)) (f : A → List B) (xs : List A) (i : ℕ) → map (λ list. list.items) lists ≡ map f xs
+    → in_list (λ list. list.items) lists i ≡ option_map_or f (slice_get xs i) []
 lists_given {A} {B} lists f xs i e =
     let items : (Vec B Global → List B) = λ list. list.items in
-    or_none items (slice_get lists i)
-    ∙ (ap (λ x. unwrap_or x []) (sym (slice_get-map items lists i) ∙ (ap (λ ys. slice_get ys i) e ∙ slice_get-map f xs i))
+    or_none items (slice_get lists i) ∙ (ap (λ x. unwrap_or x []) (sym (slice_get-map items lists i) ∙ (ap (λ ys. slice_get ys i) e ∙ slice_get-map f xs i))
     ∙ sym (or_none f (slice_get xs i)))
 
 -- ---- entries that are put into lists one after another
@@ -61,16 +71,15 @@ module _ {A : Type 0} (list_of : A → ℕ) (rising : List A) (count : ℕ) wher
         ap (filter (λ x. list_of x == i)) (take_more rising k e low ∙ ap (λ x. take k rising ++ x ∷ []) (sym is))
         ∙ filter-append (λ x. list_of x == i) (take k rising) (e ∷ [])
 
-    pub one_put : (old new : ℕ → List A) → (i < count → old i ≡ put_in k i)
-        → (list_of e < count → new (list_of e) ≡ old (list_of e) ++ e ∷ [])
-        → ((j : ℕ) → (j ≡ list_of e → ⊥) → new j ≡ old j)
-        → i < count → new i ≡ put_in (k + 1) i
+    pub one_put : (old new : ℕ → List A) → (i < count → old i ≡ put_in k i) → (list_of e < count → new (list_of e) ≡ old (list_of e) ++ e ∷ [])
+        → ((j : ℕ) → (j ≡ list_of e → ⊥) → new j ≡ old j) → i < count → new i ≡ put_in (k + 1) i
     one_put old new before here elsewhere inside =
         (elim (list_of e == i) as (λ b. (list_of e == i) ≡ b → new i ≡ put_in k i ++ cond b (e ∷ []) []) [
-          | true ↦ λ same. subst (λ j. j < count → new j ≡ old j ++ e ∷ []) ((Decides-eqb (list_of e) i).0 same) here inside ∙ ap (λ xs. xs ++ e ∷ []) (before inside)
-          | false ↦ λ other. elsewhere i (λ same. true≢false (sym ((Decides-eqb (list_of e) i).1 (sym same)) ∙ other)) ∙ (before inside ∙ sym (append-nil (put_in k i)))
-        ]) refl
-        ∙ sym next_kept
+          | true ↦ λ same. subst (λ j. j < count → new j ≡ old j ++ e ∷ []) ((Decides-eqb (list_of e) i).0 same) here inside
+              ∙ ap (λ xs. xs ++ e ∷ []) (before inside)
+          | false ↦ λ other. elsewhere i (λ same. true≢false (sym ((Decides-eqb (list_of e) i).1 (sym same)) ∙ other))
+              ∙ (before inside ∙ sym (append-nil (put_in k i)))
+        ]) refl ∙ sym next_kept
 
 -- ---- the rank of the object that a reference names
 
@@ -79,7 +88,8 @@ none_lesser : (π : Preference) (os : List Placed) → length (filter (λ o. is_
 none_lesser π [] = refl
 none_lesser π (o ∷ os) =
     let rest : List Placed = filter (λ o. is_lt (option_cmp key_cmp (key_of π o.value) None)) os in
-    elim (key_of π o.value) as (λ k. length (cond (is_lt (option_cmp key_cmp k None)) (o ∷ rest) rest) ≡ 0) [ None ↦ none_lesser π os | Some k ↦ none_lesser π os ]
+    elim (key_of π o.value) as (λ k. length (cond (is_lt (option_cmp key_cmp k None)) (o ∷ rest) rest) ≡ 0)
+    [ None ↦ none_lesser π os | Some k ↦ none_lesser π os ]
 
 -- ---- the object at a position
 
@@ -95,7 +105,8 @@ module _ (π : Preference) (t : Data) (f : Family) where
 -- ---- the object that has an `@id`
 
 -- an object of another family is found
-pub elsewhere : (t : Data) (f : Family) (id : List ℕ) (g : Family) (i : ℕ) → FindsId t id (Some (g, i)) → (family_number g == family_number f) ≡ false → (j : ℕ) → id_in f t j ≡ Some id → ⊥
+pub elsewhere : (t : Data) (f : Family) (id : List ℕ) (g : Family) (i : ℕ) → FindsId t id (Some (g, i)) → (family_number g == family_number f) ≡ false → (j : ℕ)
+    → id_in f t j ≡ Some id → ⊥
 elsewhere t f id g i finds other j e =
     let same : Some (g, i) ≡ Some (f, j) = (finds f j).1 e in
     let one : g ≡ f = ap (λ o. option_map_or (λ (x : Family × ℕ). x.0) o g) same in
@@ -111,10 +122,13 @@ text_named π t family.Selection id = refl
 text_named π t f id = refl
 
 -- ranks never fall along the order of keys
-pub ranks_rise : (π : Preference) (t : Data) (f : Family) (a b : Data) → is_gt (reference_cmp π t f a b) ≡ false → rank_named π t f (text_of a) ≤ rank_named π t f (text_of b)
+pub ranks_rise : (π : Preference) (t : Data) (f : Family) (a b : Data) → is_gt (reference_cmp π t f a b) ≡ false
+    → rank_named π t f (text_of a) ≤ rank_named π t f (text_of b)
 ranks_rise π t f a b low =
-    elim (has_keys f) as (λ k. (if k then rank_of π t f (key_named π t f (text_of a)) else 0) ≤ (if k then rank_of π t f (key_named π t f (text_of b)) else 0)) [
-      | true ↦ ranks_climb (options_total key_cmp_total) (λ (o : Placed). key_of π o.value) (key_named π t f (text_of a)) (key_named π t f (text_of b)) (objects f t) low
+    elim (has_keys f) as (λ k. (if k then rank_of π t f (key_named π t f (text_of a)) else 0)
+    ≤ (if k then rank_of π t f (key_named π t f (text_of b)) else 0)) [
+      | true ↦ ranks_climb (options_total key_cmp_total) (λ (o : Placed). key_of π o.value) (key_named π t f (text_of a))
+          (key_named π t f (text_of b)) (objects f t) low
       | false ↦ omega arith
     ]
 
@@ -125,7 +139,8 @@ module _ (π : Preference) (t : Data) (f : Family) (id : List ℕ) where
       let hit = with_part (λ o. id_of o.value) f t i id here in
       let o : ObjectIn f t i = hit.0 in
       let is : id_of o.one.value ≡ Some id = hit.1 in
-      let key : key_named π t f id ≡ key_of π o.one.value = ap (option_and_then (key_of π)) (owner_is π t accepted f o.one id (in_at (objects f t) i o.one o.at) is) in
+      let key : key_named π t f id ≡ key_of π o.one.value =
+      ap (option_and_then (key_of π)) (owner_is π t accepted f o.one id (in_at (objects f t) i o.one o.at) is) in
       ap (λ x. rank_of π t f (option_and_then (λ (o : Placed). if has_keys f then key_of π o.value else None) x)) o.at
       ∙ (ap (λ b. rank_of π t f (if b then key_of π o.one.value else None)) keyed
       ∙ (ap (rank_of π t f) (sym key) ∙ sym (ap (λ b. if b then rank_of π t f (key_named π t f id) else 0) keyed)))
@@ -149,7 +164,8 @@ module _ (π : Preference) (t : Data) (f : Family) (id : List ℕ) where
       ]
 
   -- the family's object is found
-  pub named_here : IsAccepted π t → has_keys f ≡ true → (g : Family) (i : ℕ) → FindsId t id (Some (g, i)) → (family_number g == family_number f) ≡ true → rank_of π t f (key_in π f t i) ≡ rank_named π t f id
+  pub named_here : IsAccepted π t → has_keys f ≡ true → (g : Family) (i : ℕ) → FindsId t id (Some (g, i)) → (family_number g == family_number f) ≡ true
+      → rank_of π t f (key_in π f t i) ≡ rank_named π t f id
   named_here accepted keyed g i finds same =
       let one : g ≡ f = family_exact g f same in
       found_in accepted keyed i ((finds f i).0 (ap (λ h. Some (h, i)) one))
@@ -157,7 +173,8 @@ module _ (π : Preference) (t : Data) (f : Family) (id : List ℕ) where
 -- ---- the selections of a report, without the numbers of their contests
 
 -- the selection at a position, with the number of its contest
-pub numbered_at : (t : Data) (i : ℕ) (o : Placed) → slice_get (objects family.Selection t) i ≡ Some o → (c : ℕ) × (slice_get (numbered_selections t) i ≡ Some (c, o))
+pub numbered_at : (t : Data) (i : ℕ) (o : Placed) → slice_get (objects family.Selection t) i ≡ Some o → (c : ℕ)
+    × (slice_get (numbered_selections t) i ≡ Some (c, o))
 numbered_at t i o at =
     let s = option_map-Some {A = Numbered} (λ s. s.1) (slice_get (numbered_selections t) i) o
     (sym (slice_get-map {A = Numbered} (λ s. s.1) (numbered_selections t) i) ∙ ap (λ xs. slice_get xs i) (placed_of_contests 0 (contests t)) ∙ at) in
@@ -189,7 +206,8 @@ module _ (π : Preference) (t : Data) (id : List ℕ) where
       let n = has_name π t accepted o.value (record { place = o.place; is = stands π t accepted family.Selection o of_report }) in
       let f : FoundSelection t id o.value = owner_found t id o.value (owner_is π t accepted family.Selection o id of_report is) in
       let one : f.selection ≡ o =
-      one_object π t accepted family.Selection family.Selection f.selection o id (In-flat_map selections_of_contest f.selection f.contest (contests t) f.of_report f.of_contest) of_report
+      one_object π t accepted family.Selection family.Selection f.selection o id
+      (In-flat_map selections_of_contest f.selection f.contest (contests t) f.of_report f.of_contest) of_report
       (ap id_of f.value ∙ is) is in
       let whole : f.contest ≡ c.contest =
       one_contest π t accepted f.contest c.contest o f.of_report (c.there) (subst (λ z. In z (selections_of_contest f.contest)) one f.of_contest)
@@ -202,7 +220,9 @@ module _ (π : Preference) (t : Data) (id : List ℕ) where
         at = s.1;
         contest_at = c.at;
         named = n.1;
-        text = ap (λ x. string (option_map_or (λ (c : Placed). option_map_or (λ (o : Placed). id_of_selection π t c.value o.value) (selection_with id c) []) x [])) f.contest_is
+        text = ap
+            (λ x. string (option_map_or (λ (c : Placed). option_map_or (λ (o : Placed). id_of_selection π t c.value o.value) (selection_with id c) []) x []))
+            f.contest_is
             ∙ ap (λ x. string (option_map_or (λ (o : Placed). id_of_selection π t f.contest.value o.value) x [])) f.selection_is
             ∙ ap₂ (λ (c o : Placed). string (id_of_selection π t c.value o.value)) whole one;
       }
@@ -210,14 +230,17 @@ module _ (π : Preference) (t : Data) (id : List ℕ) where
   -- no selection has it
   pub unselected : ((i : ℕ) → id_in family.Selection t i ≡ Some id → ⊥) → string [] ≡ normal_selection_reference π t (string id)
   unselected none =
-      (elim (contest_with t id) as (λ c. contest_with t id ≡ c → string [] ≡ string (option_map_or (λ (c : Placed). option_map_or (λ (o : Placed). id_of_selection π t c.value o.value) (selection_with id c) []) c [])) [
+      (elim (contest_with t id) as (λ c. contest_with t id ≡ c → string []
+      ≡ string (option_map_or (λ (c : Placed). option_map_or (λ (o : Placed). id_of_selection π t c.value o.value) (selection_with id c) []) c [])) [
         | None ↦ λ is. refl
         | Some c ↦ λ is.
-            let found = find-Some (λ (c : Placed). option_map_or (λ (o : Placed). true) (find (λ o. has_id id o.value) (selections_of_contest c)) false) (contests t) c is in
+            let found = find-Some (λ (c : Placed). option_map_or (λ (o : Placed). true) (find (λ o. has_id id o.value) (selections_of_contest c)) false)
+            (contests t) c is in
             absurd (inside c found.0 (find (λ o. has_id id o.value) (selections_of_contest c)) refl found.1)
       ]) refl
     where
-      inside : (c : Placed) → In c (contests t) → (o : Option Placed) → find (λ o. has_id id o.value) (selections_of_contest c) ≡ o → option_map_or (λ o. true) o false ≡ true → ⊥
+      inside : (c : Placed) → In c (contests t) → (o : Option Placed) → find (λ o. has_id id o.value) (selections_of_contest c) ≡ o
+          → option_map_or (λ o. true) o false ≡ true → ⊥
       inside c of_report None is h = cc
       inside c of_report (Some o) is h =
           let found = find-Some (λ (o : Placed). has_id id o.value) (selections_of_contest c) o is in
@@ -227,19 +250,22 @@ module _ (π : Preference) (t : Data) (id : List ℕ) where
 -- what is looked up where a selection is found
 module _ (π : Preference) (t : Data) (id : List ℕ) (i : ℕ) (s : SelectionAt π t id i) where
   pub selection_there : selection_in π t i ≡ Some (s.number, s.name)
-  selection_there = ap (option_and_then {T = Numbered} (λ x. option_map (λ n. (x.0, n)) (name_of π t x.1.value))) s.at ∙ ap (option_map (λ n. (s.number, n))) s.named
+  selection_there = ap (option_and_then {T = Numbered} (λ x. option_map (λ n. (x.0, n)) (name_of π t x.1.value))) s.at
+      ∙ ap (option_map (λ n. (s.number, n))) s.named
 
-  pub rank_there : (ranks : List ℕ) → AreSelectionRanks π t ranks → slice_get ranks i ≡ Some (rank_of_name π t (entries_at (codes "ContestSelection") s.contest.value) (name_of π t s.selection.value))
+  pub rank_there : (ranks : List ℕ) → AreSelectionRanks π t ranks → slice_get ranks i
+      ≡ Some (rank_of_name π t (entries_at (codes "ContestSelection") s.contest.value) (name_of π t s.selection.value))
   rank_there ranks are = are i s.number s.contest s.selection s.at s.contest_at
 
-  pub reference_there : string (canonical_selection_id (rank_of π t family.Contest (key_in π family.Contest t s.number)) (rank_of_name π t (entries_at (codes "ContestSelection") s.contest.value) (name_of π t s.selection.value)))
-      ≡ normal_selection_reference π t (string id)
+  pub reference_there : string (canonical_selection_id (rank_of π t family.Contest (key_in π family.Contest t s.number))
+      (rank_of_name π t (entries_at (codes "ContestSelection") s.contest.value) (name_of π t s.selection.value))) ≡ normal_selection_reference π t (string id)
   reference_there =
-      ap (λ x. string (canonical_selection_id (rank_of π t family.Contest (option_and_then (λ (o : Placed). key_of π o.value) x)) (rank_of_name π t (entries_at (codes "ContestSelection") s.contest.value) (name_of π t s.selection.value)))) s.contest_at
-      ∙ sym s.text
+      ap (λ x. string (canonical_selection_id (rank_of π t family.Contest (option_and_then (λ (o : Placed). key_of π o.value) x))
+      (rank_of_name π t (entries_at (codes "ContestSelection") s.contest.value) (name_of π t s.selection.value)))) s.contest_at ∙ sym s.text
 
 -- the selection that is found has the `@id`
-pub selection_found : (t : Data) (id : List ℕ) (g : Family) (i : ℕ) → FindsId t id (Some (g, i)) → (family_number g == family_number family.Selection) ≡ true → id_in family.Selection t i ≡ Some id
+pub selection_found : (t : Data) (id : List ℕ) (g : Family) (i : ℕ) → FindsId t id (Some (g, i)) → (family_number g == family_number family.Selection) ≡ true
+    → id_in family.Selection t i ≡ Some id
 selection_found t id g i finds same =
     let one : g ≡ family.Selection = family_exact g family.Selection same in
     (finds family.Selection i).0 (ap (λ h. Some (h, i)) one)

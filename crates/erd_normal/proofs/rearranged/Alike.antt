@@ -1,15 +1,31 @@
 -- A renaming and an exchange of two entries of a set make values that are alike; and what stands in reports that are alike.
-use Rattle.erd_normal.proofs.Common.{NameOneThing, a_list, a_set, list_of_items-tree, same_Some, ◌≡◌, ℕ, zero, suc, ◌<◌, Bool, true, false, cond, ◌&&◌, List, [], ◌∷◌, length, IsSomeAnd, IsTrue, Some, None, Option, option_map, swap, option_and_then, nat_cmp, is_eq, Ordering, Equal, sym, refl, ap, ◌∙◌, subst, arith, is_eq-slice_cmp, slice_cmp, Data, null, string, array, object, Items, no_items, item, Members, no_members, member, get_member, get_item, items_of, role, Step, At, Name, list_of_items-items_of, text_from_equal, list_of_items, entries_of, scope_inside, want_of_name, entry_want, is_compared_set, is_table_set, Asked, asked, is_repeated, asked_of_member, asked_inside, asked_from, Scope, Want, Object, Renaming, replaced_text, is_id_text, renamed_value, renamed_items, renamed_members, changed_at, member_changed, item_changed, swapped, exchanged, HasEntries, IsPermutation, IsPermutation-swap, IsPermutation-refl, boolean, number, IsBeforeFirst, IsTree, AreTrees, AreMembers, codes, bytes_eq, option_map_or, get, as_str, kind_of_member, Class, Family, Role, kind, list_of_items-place, ObjectAt, ObjectIn, Within-step, AsksObject, of_role, of_label, member_within, Within, want_by_kind, ShapeFault, NoneOf, entries_at, class_of_object, member_want, scope, Member, object_in, report_class, Within-root, id_of, IsPermutation-sym, In, inl, inr, reordered-In, get_member-first, get_member-later, Sides, not_asked, a_null, a_flag, a_number, a_text, an_id, an_object, Same, renamed}
+use Rattle.erd_normal.proofs.Common.{NameOneThing, a_list, a_set, list_of_items-tree, same_Some, ◌≡◌, ℕ, zero, suc, ◌<◌, Bool, true, false, cond, ◌&&◌, List}
+use Rattle.erd_normal.proofs.Common.{[], ◌∷◌, length, IsSomeAnd, IsTrue, Some, None, Option, option_map, swap, option_and_then, nat_cmp, is_eq, Ordering, Equal}
+use Rattle.erd_normal.proofs.Common.{sym, refl, ap, ◌∙◌, subst, arith, is_eq-slice_cmp, slice_cmp, Data, null, string, array, object, Items, no_items, item}
+use Rattle.erd_normal.proofs.Common.{Members, no_members, member, get_member, get_item, items_of, role, Step, At, Name, list_of_items-items_of, text_from_equal}
+use Rattle.erd_normal.proofs.Common.{list_of_items, entries_of, scope_inside, want_of_name, entry_want, is_compared_set, is_table_set, Asked, asked}
+use Rattle.erd_normal.proofs.Common.{is_repeated, asked_of_member, asked_inside, asked_from, Scope, Want, Object, Renaming, replaced_text, is_id_text}
+use Rattle.erd_normal.proofs.Common.{renamed_value, renamed_items, renamed_members, changed_at, member_changed, item_changed, swapped, exchanged, HasEntries}
+use Rattle.erd_normal.proofs.Common.{IsPermutation, IsPermutation-swap, IsPermutation-refl, boolean, number, IsBeforeFirst, IsTree, AreTrees, AreMembers, codes}
+use Rattle.erd_normal.proofs.Common.{bytes_eq, option_map_or, get, as_str, kind_of_member, Class, Family, Role, kind, list_of_items-place, ObjectAt, ObjectIn}
+use Rattle.erd_normal.proofs.Common.{Within-step, AsksObject, of_role, of_label, member_within, Within, want_by_kind, ShapeFault, NoneOf, entries_at}
+use Rattle.erd_normal.proofs.Common.{class_of_object, member_want, scope, Member, object_in, report_class, Within-root, id_of, IsPermutation-sym, In, inl, inr}
+use Rattle.erd_normal.proofs.Common.{reordered-In, get_member-first, get_member-later, Sides, not_asked, a_null, a_flag, a_number, a_text, an_id, an_object}
+use Rattle.erd_normal.proofs.Common.{Same, renamed}
 use Rattle.erd_normal.proofs.lists.Matched.{Both, both, neither, Matched, Paired, none, more, matched_none, matched_within}
 use Rattle.erd_normal.proofs.same.Lookups.{get_both, asked_of_name}
 use Rattle.erd_normal.proofs.inside.Homes.{kind_of_family_id}
 use Rattle.erd_normal.proofs.same.IdsOfObjects.{family_values, families_matched}
-use Rattle.erd_normal.proofs.same.Related.{Stands, entry_stands, member_stands, is_leaf, Alike, AlikeEntries, AlikeMembers, alike_leaf, alike_list, alike_set, alike_object, alike_none, alike_more, alike_nothing, alike_under, alike_array, alike_self, alike_same, entries_self, members_self, matched_left}
+use Rattle.erd_normal.proofs.same.Related.{Stands, entry_stands, member_stands, is_leaf, Alike, AlikeEntries, AlikeMembers, alike_leaf, alike_list, alike_set}
+use Rattle.erd_normal.proofs.same.Related.{alike_object, alike_none, alike_more, alike_nothing, alike_under, alike_array, alike_self, alike_same, entries_self}
+use Rattle.erd_normal.proofs.same.Related.{members_self, matched_left}
 
 -- ---- a renaming
 
-module _ (pairs : Renaming) (m : Sides) (texts : (w : Want) (s : List ℕ) → Stands m.left w (string s) → is_id_text w ≡ true → NameOneThing m s (replaced_text pairs s)) where
-  renamed_text : (w : Want) (s : List ℕ) (b : Bool) → is_id_text w ≡ b → Stands m.left w (string s) → Alike m (Some w) (string s) (cond b (string (replaced_text pairs s)) (string s))
+module _ (pairs : Renaming) (m : Sides) (texts : (w : Want) (s : List ℕ) → Stands m.left w (string s) → is_id_text w ≡ true
+    → NameOneThing m s (replaced_text pairs s)) where
+  renamed_text : (w : Want) (s : List ℕ) (b : Bool) → is_id_text w ≡ b → Stands m.left w (string s)
+      → Alike m (Some w) (string s) (cond b (string (replaced_text pairs s)) (string s))
   renamed_text w s true is st = alike_leaf refl (an_id is (texts w s st is))
   renamed_text w s false is st = alike_leaf refl (a_text is)
 
@@ -27,13 +43,14 @@ module _ (pairs : Renaming) (m : Sides) (texts : (w : Want) (s : List ℕ) → S
     renamed_value_alike None null stand tree = alike_leaf refl not_asked
     renamed_value_alike None d stand tree = alike_leaf refl not_asked
 
-    renamed_entries : (o : Option Want) (ds : Items) → ((w : Want) → o ≡ Some w → (x : Data) → In x (list_of_items ds) → Stands m.left w x) → AreTrees ds → AlikeEntries m o ds (renamed_items pairs o ds)
+    renamed_entries : (o : Option Want) (ds : Items) → ((w : Want) → o ≡ Some w → (x : Data) → In x (list_of_items ds) → Stands m.left w x) → AreTrees ds
+        → AlikeEntries m o ds (renamed_items pairs o ds)
     renamed_entries o no_items stand trees = alike_none
     renamed_entries o (item d ds) stand trees =
         alike_more (renamed_value_alike o d (λ w asks. stand w asks d (inl refl)) trees.0) (renamed_entries o ds (λ w asks x i. stand w asks x (inr i)) trees.1)
 
-    renamed_names : (s : Scope) (ms : Members) → ((k : List ℕ) (w : Want) (d : Data) → want_of_name s k ≡ Some w → get_member k ms ≡ Some d → Stands m.left w d) → AreMembers ms
-        → AlikeMembers m s ms (renamed_members pairs s ms)
+    renamed_names : (s : Scope) (ms : Members) → ((k : List ℕ) (w : Want) (d : Data) → want_of_name s k ≡ Some w → get_member k ms ≡ Some d → Stands m.left w d)
+        → AreMembers ms → AlikeMembers m s ms (renamed_members pairs s ms)
     renamed_names s no_members stand trees = alike_nothing
     renamed_names s (member k d ms) stand trees =
         alike_under (renamed_value_alike (want_of_name s k) d (λ w asks. stand k w d asks (get_member-first k d ms)) trees.1)
@@ -61,14 +78,16 @@ module _ (m : Sides) (itself : (s : List ℕ) → NameOneThing m s s) where
   members_kept : (s : Scope) (ms : Members) → AlikeMembers m s ms ms
   members_kept s ms = members_self m (λ o. Unit {0}) (λ w s h is. itself s) (λ w h. tt) (λ w ms h n. tt) s ms (λ n. tt)
 
-  swapped_alike : (i j : ℕ) (w : Want) (d : Data) → is_table_set w ≡ true → i < length (entries_of d) → j < length (entries_of d) → Alike m (Some w) d (swapped i j d)
+  swapped_alike : (i j : ℕ) (w : Want) (d : Data) → is_table_set w ≡ true → i < length (entries_of d) → j < length (entries_of d)
+      → Alike m (Some w) d (swapped i j d)
   swapped_alike i j w (array ds) set low high =
       let es = items_of (swap (list_of_items ds) i j) in
-      alike_set es set (subst (IsPermutation (list_of_items ds)) (sym (list_of_items-items_of (swap (list_of_items ds) i j))) (IsPermutation-swap (list_of_items ds) _ i j low high refl)) (entries_kept (entry_want w) es)
+      alike_set es set (subst (IsPermutation (list_of_items ds)) (sym (list_of_items-items_of (swap (list_of_items ds) i j)))
+      (IsPermutation-swap (list_of_items ds) _ i j low high refl)) (entries_kept (entry_want w) es)
   swapped_alike i j w e set low high = absurd (omega arith)
 
-  item_alike : (f : Data → Data) (ss : List Step) (w : Want) (i : ℕ) (ds : Items) → ((d : Data) → get_item i ds ≡ Some d → Alike m (Some w) d (changed_at f ss d))
-      → AlikeEntries m (Some w) ds (item_changed f i ss ds)
+  item_alike : (f : Data → Data) (ss : List Step) (w : Want) (i : ℕ) (ds : Items)
+      → ((d : Data) → get_item i ds ≡ Some d → Alike m (Some w) d (changed_at f ss d)) → AlikeEntries m (Some w) ds (item_changed f i ss ds)
   item_alike f ss w i no_items each = alike_none
   item_alike f ss w zero (item d ds) each = alike_more (each d refl) (entries_kept (Some w) ds)
   item_alike f ss w (suc i) (item d ds) each = alike_more (kept (Some w) d) (item_alike f ss w i ds each)
@@ -101,8 +120,8 @@ module _ (m : Sides) (itself : (s : List ℕ) → NameOneThing m s s) where
     abbrev HoldsInside : List Step → Option Asked → Type 0
     HoldsInside ss o = IsSomeAnd (option_and_then (λ b. asked_from b ss) o) (Ends i j)
 
-    under_name : (ss : List Step) → Inside ss → (s : Scope) (n : List ℕ) (ms : Members) (v : Option Want) (o : Option Data) → want_of_name s n ≡ v → get_member n ms ≡ o
-        → HoldsInside ss (asked_of_member v o) → AlikeMembers m s ms (member_changed (swapped i j) n ss ms)
+    under_name : (ss : List Step) → Inside ss → (s : Scope) (n : List ℕ) (ms : Members) (v : Option Want) (o : Option Data) → want_of_name s n
+        ≡ v → get_member n ms ≡ o → HoldsInside ss (asked_of_member v o) → AlikeMembers m s ms (member_changed (swapped i j) n ss ms)
     under_name ss inside s n ms None o asks found h = absurd h
     under_name ss inside s n ms (Some v) None asks found h = absurd h
     under_name ss inside s n ms (Some v) (Some x) asks found h =
@@ -117,13 +136,16 @@ module _ (m : Sides) (itself : (s : List ℕ) → NameOneThing m s s) where
     at_position ss inside (Some v) in_set k ds (Some x) found h =
         item_alike (swapped i j) ss v k ds (λ d e.
         let same : x ≡ d = cc in
-        subst (λ y. Alike m (Some v) y (changed_at (swapped i j) ss y)) same (inside (record { want = v; value = x; repeated = in_set && is_repeated ds k x }) h))
+        subst (λ y. Alike m (Some v) y (changed_at (swapped i j) ss y)) same
+        (inside (record { want = v; value = x; repeated = in_set && is_repeated ds k x }) h))
 
-    one_step : (ss : List Step) → Inside ss → (w : Want) (d : Data) (s : Step) → HoldsInside ss (asked_inside w d s) → Alike m (Some w) d (changed_at (swapped i j) (s ∷ ss) d)
+    one_step : (ss : List Step) → Inside ss → (w : Want) (d : Data) (s : Step) → HoldsInside ss (asked_inside w d s)
+        → Alike m (Some w) d (changed_at (swapped i j) (s ∷ ss) d)
     one_step ss inside w (object ms) (Name n) h =
         alike_object (under_name ss inside (scope_inside w (object ms)) n ms (want_of_name (scope_inside w (object ms)) n) (get_member n ms) refl refl h)
     one_step ss inside w (array ds) (At k) h =
-        alike_array m w ds (item_changed (swapped i j) k ss ds) (is_table_set w) refl (at_position ss inside (entry_want w) (is_compared_set w) k ds (get_item k ds) refl h)
+        alike_array m w ds (item_changed (swapped i j) k ss ds) (is_table_set w) refl
+        (at_position ss inside (entry_want w) (is_compared_set w) k ds (get_item k ds) refl h)
     one_step ss inside w (array ds) (Name n) h = absurd h
     one_step ss inside w (object ms) (At k) h = absurd h
     one_step ss inside w e s h = absurd h
@@ -138,10 +160,12 @@ module _ (m : Sides) (itself : (s : List ℕ) → NameOneThing m s s) where
 -- ---- what stands under a name, and the entries of arrays
 
 module _ (m : Sides) where
-  pub alike_member : {s : Scope} {ms ns : Members} → AlikeMembers m s ms ns → (n : List ℕ) → Both (Alike m (want_of_name s n)) (get_member n ms) (get_member n ns)
+  pub alike_member : {s : Scope} {ms ns : Members} → AlikeMembers m s ms ns → (n : List ℕ) → Both (Alike m (want_of_name s n))
+      (get_member n ms) (get_member n ns)
   alike_member alike_nothing n = neither
   alike_member {s = s} (alike_under {k = k} {d = d} {e = e} {ms = ms} {ns = ns} h rest) n =
-      get_both (Both (Alike m (want_of_name s n))) n k d e ms ns (λ named. both (subst (λ x. Alike m (want_of_name s x) d e) (sym named) h)) (alike_member rest n)
+      get_both (Both (Alike m (want_of_name s n))) n k d e ms ns (λ named. both (subst (λ x. Alike m (want_of_name s x) d e) (sym named) h))
+      (alike_member rest n)
 
   alike_entries : {o : Option Want} {ds es : Items} → AlikeEntries m o ds es → Paired (Alike m o) (list_of_items ds) (list_of_items es)
   alike_entries alike_none = none
@@ -179,7 +203,8 @@ module _ (m : Sides) where
     pub alike_tree : {o : Option Want} {d e : Data} → Alike m o d e → IsTree d → IsTree e
     alike_tree (alike_leaf leaf h) tree = leaf_tree h leaf tree
     alike_tree (alike_list is h) tree = entries_trees h tree
-    alike_tree (alike_set {ds = ds} fs is p h) tree = entries_trees h (trees_of_list fs (λ d i. list_of_items-tree ds d tree (reordered-In d (IsPermutation-sym _ _ p) i)))
+    alike_tree (alike_set {ds = ds} fs is p h) tree =
+        entries_trees h (trees_of_list fs (λ d i. list_of_items-tree ds d tree (reordered-In d (IsPermutation-sym _ _ p) i)))
     alike_tree (alike_object h) tree = members_trees h tree
 
     entries_trees : {o : Option Want} {ds es : Items} → AlikeEntries m o ds es → AreTrees ds → AreTrees es
@@ -198,14 +223,16 @@ pub record Related (m : Sides) (w : Want) (d e : Data) : Type 0 where
   pub is_alike : Alike m (Some w) d e
 
 module _ (m : Sides) where
-  entry_inside : (w v : Want) (d : Data) → entry_want w ≡ Some v → is_compared_set w ≡ false → Within m.left (asked w d) → (x : Data) → In x (entries_of d) → Within m.left (asked v x)
+  entry_inside : (w v : Want) (d : Data) → entry_want w ≡ Some v → is_compared_set w ≡ false → Within m.left (asked w d) → (x : Data) → In x (entries_of d)
+      → Within m.left (asked v x)
   entry_inside w v (array ds) asks apart inside x h =
       let j = list_of_items-place ds x h in
       Within-step m.left (asked w (array ds)) (asked v x) (At j.0) inside (rw (asks, apart, j.1) refl)
   entry_inside w v e asks apart inside x h = elim h [ ]
 
   -- the entries of arrays that are not compared with one another
-  pub related_entries : (w v : Want) (d e : Data) → entry_want w ≡ Some v → is_compared_set w ≡ false → Related m w d e → Matched (Related m v) (entries_of d) (entries_of e)
+  pub related_entries : (w v : Want) (d e : Data) → entry_want w ≡ Some v → is_compared_set w ≡ false → Related m w d e
+      → Matched (Related m v) (entries_of d) (entries_of e)
   related_entries w v d e asks apart r =
       matched_within (Related m v) (λ x y h k. record { inside = entry_inside w v d asks apart r.inside x h; is_alike = k })
       (subst (λ o. Matched (Alike m o) (entries_of d) (entries_of e)) asks (alike_listed m w r.is_alike))
@@ -219,7 +246,8 @@ module _ (m : Sides) where
   -- ---- objects
 
   module _ (clean : NoneOf (ShapeFault m.left)) where
-    scope_known : (w : Want) (q : Role) (c : Class) (ms : Members) → AsksObject w q → class_of_object q (object ms) ≡ Some c → scope_inside w (object ms) ≡ scope.Members q (Some c)
+    scope_known : (w : Want) (q : Role) (c : Class) (ms : Members) → AsksObject w q → class_of_object q (object ms) ≡ Some c → scope_inside w (object ms)
+        ≡ scope.Members q (Some c)
     scope_known w q c ms of_role among = ap (scope.Members q) among
     scope_known w q c ms of_label among = ap (scope.Members role.Label) among
 
@@ -236,7 +264,8 @@ module _ (m : Sides) where
         from (alike_leaf leaf g) = cc
         from (alike_object {ns = ns} g) =
             at (get_member name ms) (get_member name ns) refl
-            (subst (λ o. Both (Alike m o) (get_member name ms) (get_member name ns)) (ap (λ s. want_of_name s name) (scope_known w q c ms a.asks a.among) ∙ asked_of_name q c name other) (alike_member m g name))
+            (subst (λ o. Both (Alike m o) (get_member name ms) (get_member name ns))
+            (ap (λ s. want_of_name s name) (scope_known w q c ms a.asks a.among) ∙ asked_of_name q c name other) (alike_member m g name))
 
     -- the same of an object with a role
     pub related_in : (r : Role) (d e : Data) (o : ObjectIn m.left r d) → Related m (Object r) d e → (name : List ℕ) → bytes_eq name (codes "@type") ≡ false
@@ -246,11 +275,13 @@ module _ (m : Sides) where
         (related_member (Object r) r o.class o.ms o.at e (subst (λ x. Alike m (Some (Object r)) x e) o.is_object related.is_alike) name other)
 
     -- the objects of a keyed array
-    pub related_array : (r : Role) (d e : Data) (o : ObjectIn m.left r d) → Related m (Object r) d e → (f : Family) (name : List ℕ) → bytes_eq name (codes "@type") ≡ false
+    pub related_array : (r : Role) (d e : Data) (o : ObjectIn m.left r d) → Related m (Object r) d e → (f : Family) (name : List ℕ)
+        → bytes_eq name (codes "@type") ≡ false
         → kind_of_member o.class name ≡ kind.Keyed f → Matched (Related m (Object (role.OfFamily f))) (entries_at name d) (entries_at name e)
     related_array r d e o related f name other keyed =
         related_listed (Member (kind.Keyed f) false) (Object (role.OfFamily f)) (get name d) (get name e) refl refl
-        (subst (λ x. Both (Related m x) (get name d) (get name e)) (want_by_kind o.class name (kind.Keyed f) keyed refl) (related_in r d e o related name other))
+        (subst (λ x. Both (Related m x) (get name d) (get name e)) (want_by_kind o.class name (kind.Keyed f) keyed refl)
+        (related_in r d e o related name other))
 
 -- ---- the objects of each family are matched, and related ones have `@id`s that are one but for the function of texts
 
@@ -263,7 +294,8 @@ module _ (m : Sides) (clean : NoneOf (ShapeFault m.left)) where
   abbrev RelatedIn : Role → Data → Data → Type 0
   RelatedIn r = Related m (Object r)
 
-  ids_found : (required : Bool) (o p : Option Data) → Both (Related m (Member kind.Identity required)) o p → option_and_then as_str o ≡ option_map m.back (option_and_then as_str p)
+  ids_found : (required : Bool) (o p : Option Data) → Both (Related m (Member kind.Identity required)) o p → option_and_then as_str o
+      ≡ option_map m.back (option_and_then as_str p)
   ids_found required o p neither = refl
   ids_found required o p (both r) = id_text m (Member kind.Identity required) refl (alike_same r.is_alike)
 
@@ -286,9 +318,12 @@ module _ (m : Sides) (clean : NoneOf (ShapeFault m.left)) where
     elections_both =
         let name = codes "Election" in
         let listed : kind_of_member top.class name ≡ kind.Elections = ap (λ c. kind_of_member c name) (report_class top.class top.role) in
-        subst (λ w. Both (Related m w) (get name m.left) (get name m.right)) (want_by_kind top.class name kind.Elections listed refl) (related_in m clean role.Report m.left m.right top report name refl)
+        subst (λ w. Both (Related m w) (get name m.left) (get name m.right)) (want_by_kind top.class name kind.Elections listed refl)
+        (related_in m clean role.Report m.left m.right top report name refl)
 
     pub family_matched : (f : Family) → Matched (RelatedIn (role.OfFamily f)) (family_values f m.left) (family_values f m.right)
     family_matched =
-        families_matched m.left m.right RelatedIn (λ r d e k f name other known. let o = object_in m.left clean r d k.inside in related_array m clean r d e o k f name other (known o.class o.role).0) report
-        (related_listed m (Member kind.Elections false) (Object role.Election) (get (codes "Election") m.left) (get (codes "Election") m.right) refl refl elections_both)
+        families_matched m.left m.right RelatedIn (λ r d e k f name other known. let o = object_in m.left clean r d k.inside in
+        related_array m clean r d e o k f name other (known o.class o.role).0) report
+        (related_listed m (Member kind.Elections false) (Object role.Election) (get (codes "Election") m.left) (get (codes "Election") m.right)
+        refl refl elections_both)

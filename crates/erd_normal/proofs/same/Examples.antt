@@ -1,5 +1,8 @@
 -- Reports that say the same as the small ballot, and reports that do not, by the laws and by computation.
-use Rattle.erd_normal.proofs.Common.{◌≡◌, ℕ, ◌^◌, ◌<◌, Bool, true, false, not, List, ◌++◌, length, is_some, Some, None, codes, Option, sym, refl, ap, ◌∙◌, subst, true≢false, lit<, digits, serde_json_on_literals, Data, Family, family, read_is_tree, no_fault_listed, IsTree, tree_of, small_ballot_with, small_ballot, small_ballot_canonical, local_key, IsAccepted, objects, meaning, MemberValue, a_plain, a_content, first_node, a_header, SaysTheSame}
+use Rattle.erd_normal.proofs.Common.{◌≡◌, ℕ, ◌^◌, ◌<◌, Bool, true, false, not, List, ◌++◌, length, is_some, Some, None, codes, Option, sym, refl, ap, ◌∙◌}
+use Rattle.erd_normal.proofs.Common.{subst, true≢false, lit<, digits, serde_json_on_literals, Data, Family, family, read_is_tree, no_fault_listed, IsTree}
+use Rattle.erd_normal.proofs.Common.{tree_of, small_ballot_with, small_ballot, small_ballot_canonical, local_key, IsAccepted, objects, meaning, MemberValue}
+use Rattle.erd_normal.proofs.Common.{a_plain, a_content, first_node, a_header, SaysTheSame}
 use Rattle.erd_meaning.specs.Meaning.{Meaning}
 use Rattle.erd_check.proofs.Reports.{contest_node, header_node}
 use Rattle.erd_check.proofs.WholeExamples.{small_ballot_is_faultless, small_ballot_canonical_is_faultless}
@@ -39,7 +42,8 @@ canonical_says = subst (SaysTheSame given) given_built (view_says None given sma
 
 -- a style with an `@id`, an empty array of the table and an outside member
 abbrev more_text : List ℕ
-more_text = edited (codes "{\"@type\":\"ElectionResults.BallotStyle\"") (codes "{\"@id\":\"s\",\"@type\":\"ElectionResults.BallotStyle\",\"PartyIds\":[]") (edited (codes "\"VotesAllowed\":1") (codes "\"VotesAllowed\":1,\"OtherCounts\":[]") small_ballot)
+more_text = edited (codes "{\"@type\":\"ElectionResults.BallotStyle\"") (codes "{\"@id\":\"s\",\"@type\":\"ElectionResults.BallotStyle\",\"PartyIds\":[]")
+    (edited (codes "\"VotesAllowed\":1") (codes "\"VotesAllowed\":1,\"OtherCounts\":[]") small_ballot)
 
 abbrev more_members : Data
 more_members = tree_of more_text
@@ -63,13 +67,16 @@ more_built = refl
 
 pub more_says : SaysTheSame given more_members
 more_says =
-    let back : SaysTheSame canonical more_members = says_back more_members canonical (subst (SaysTheSame more_members) more_built (view_says None more_members more_accepted more_tree (record { few = few_more }))) in
+    let back : SaysTheSame canonical more_members =
+    says_back more_members canonical
+    (subst (SaysTheSame more_members) more_built (view_says None more_members more_accepted more_tree (record { few = few_more }))) in
     says_in_turn given canonical more_members given_tree small_ballot_canonical_is_faultless.tree more_tree canonical_says back
 
 -- ---- what does not, since it means something else
 
 means_else : (u : Data) → IsTree u → (test : Meaning → Bool) → test (meaning None given) ≡ true → test (meaning None u) ≡ false → SaysTheSame given u → ⊥
-means_else u tree test left right h = true≢false (sym left ∙ ap test (sym (saying_the_same_means_the_same None given u given_tree tree small_ballot_is_accepted h)) ∙ right)
+means_else u tree test left right h =
+    true≢false (sym left ∙ ap test (sym (saying_the_same_means_the_same None given u given_tree tree small_ballot_is_accepted h)) ∙ right)
 
 -- another identifier
 abbrev other_value : List ℕ
@@ -77,7 +84,8 @@ other_value = small_ballot_with (codes "K4") (header_node ++ codes "," ++ contes
 
 pub other_value_differs : SaysTheSame given (tree_of other_value) → ⊥
 unfolding serde_json_on_literals
-other_value_differs = means_else (tree_of other_value) (read_is_tree other_value (tree_of other_value) refl) (λ m. is_some (m.objects family.Candidate (local_key (codes "K3")))) refl refl
+other_value_differs = means_else (tree_of other_value) (read_is_tree other_value (tree_of other_value) refl)
+    (λ m. is_some (m.objects family.Candidate (local_key (codes "K3")))) refl refl
 
 -- another order of the ballot
 abbrev other_order : List ℕ
@@ -103,7 +111,8 @@ with_false = edited (codes "{\"Status\"") (codes "{\"IsTest\":false,\"Status\"")
 
 pub with_false_differs : SaysTheSame (tree_of with_false) given → ⊥
 unfolding serde_json_on_literals
-with_false_differs h = means_else (tree_of with_false) (read_is_tree with_false (tree_of with_false) refl) (lacks_member (codes "IsTest")) refl refl (says_back (tree_of with_false) given h)
+with_false_differs h = means_else (tree_of with_false) (read_is_tree with_false (tree_of with_false) refl) (lacks_member (codes "IsTest")) refl refl
+    (says_back (tree_of with_false) given h)
 
 -- an empty array that is carried
 abbrev with_carried : List ℕ
@@ -111,4 +120,5 @@ with_carried = edited (codes "{\"Status\"") (codes "{\"Colors\":[],\"Status\"") 
 
 pub with_carried_differs : SaysTheSame (tree_of with_carried) given → ⊥
 unfolding serde_json_on_literals
-with_carried_differs h = means_else (tree_of with_carried) (read_is_tree with_carried (tree_of with_carried) refl) (lacks_member (codes "Colors")) refl refl (says_back (tree_of with_carried) given h)
+with_carried_differs h = means_else (tree_of with_carried) (read_is_tree with_carried (tree_of with_carried) refl) (lacks_member (codes "Colors")) refl refl
+    (says_back (tree_of with_carried) given h)

@@ -1,5 +1,15 @@
 -- The objects of a report, family by family, and their `@id`s.
-use Rattle.erd_normal.proofs.Common.{◌≡◌, ℕ, false, List, map, codes, flat_map, bytes_eq, Less, Equal, sym, ap, ◌∙◌, subst, tied_itself, Data, kind_of_member, class, Family, family, kind, entries_at, values-placed_entries, values-placed_flat, IsBefore, Placed, placed_entries, report_of, elections, contests, objects, Class, Role, MemberKind, role, is_in_envelope, role_of_class, report_class, election_class, contest_selections, is_envelope_name, refl, In, In-map, In-map_from, Bool, true, cond, ◌&&◌, [], is_some, Some, None, Option, option_map, option_and_then, and_parts, AllByRecursion, option_map_or, string, array, object, Items, Members, get_member, get_item, as_str, family_of_role, family_of_class, is_required, Step, At, string_from_text, text_exact, Within-step, wanted_within, Within, list_of_items, entries_of, class_of_object, scope_inside, want_of_kind, is_report_class, member_want, want_of_name, entry_want, Asked, asked, is_repeated, asked_at, scope, Want, Carried, ClassText, Member, Object, Reference, Status, no_shape_fault, owned, unrepeated_reference, class_role, IsAccepted, has_keys, Preference, owner, slice_get, find, IsDistinct, position_of, no_identity_fault, find-Some, has_id-Some, has_id-from, one_id, distinct_from_one_place, distinct_map, id_in, id_of, has_id, In-flat_map}
+use Rattle.erd_normal.proofs.Common.{◌≡◌, ℕ, false, List, map, codes, flat_map, bytes_eq, Less, Equal, sym, ap, ◌∙◌, subst, tied_itself, Data, kind_of_member}
+use Rattle.erd_normal.proofs.Common.{class, Family, family, kind, entries_at, values-placed_entries, values-placed_flat, IsBefore, Placed, placed_entries}
+use Rattle.erd_normal.proofs.Common.{report_of, elections, contests, objects, Class, Role, MemberKind, role, is_in_envelope, role_of_class, report_class}
+use Rattle.erd_normal.proofs.Common.{election_class, contest_selections, is_envelope_name, refl, In, In-map, In-map_from, Bool, true, cond, ◌&&◌, [], is_some}
+use Rattle.erd_normal.proofs.Common.{Some, None, Option, option_map, option_and_then, and_parts, AllByRecursion, option_map_or, string, array, object, Items}
+use Rattle.erd_normal.proofs.Common.{Members, get_member, get_item, as_str, family_of_role, family_of_class, is_required, Step, At, string_from_text}
+use Rattle.erd_normal.proofs.Common.{text_exact, Within-step, wanted_within, Within, list_of_items, entries_of, class_of_object, scope_inside, want_of_kind}
+use Rattle.erd_normal.proofs.Common.{is_report_class, member_want, want_of_name, entry_want, Asked, asked, is_repeated, asked_at, scope, Want, Carried}
+use Rattle.erd_normal.proofs.Common.{ClassText, Member, Object, Reference, Status, no_shape_fault, owned, unrepeated_reference, class_role, IsAccepted}
+use Rattle.erd_normal.proofs.Common.{has_keys, Preference, owner, slice_get, find, IsDistinct, position_of, no_identity_fault, find-Some, has_id-Some}
+use Rattle.erd_normal.proofs.Common.{has_id-from, one_id, distinct_from_one_place, distinct_map, id_in, id_of, has_id, In-flat_map}
 use Rattle.erd_meaning.specs.code.Spots.{member_name}
 use Rattle.erd_tables.specs.Places.{place_cmp}
 use Rattle.erd_tables.proofs.PlaceOrder.{place_cmp_total}
@@ -26,7 +36,8 @@ family_values family.Selection t = flat_map (entries_at (codes "ContestSelection
 pub election_values_are : (t : Data) → map (λ o. o.value) (elections t) ≡ entries_at (codes "Election") t
 election_values_are t = values-placed_entries (codes "Election") (report_of t)
 
-values_in_elections : (t : Data) (name : List ℕ) → map (λ o. o.value) (flat_map (placed_entries name) (elections t)) ≡ flat_map (entries_at name) (entries_at (codes "Election") t)
+values_in_elections : (t : Data) (name : List ℕ) → map (λ o. o.value) (flat_map (placed_entries name) (elections t)) ≡ flat_map (entries_at name)
+    (entries_at (codes "Election") t)
 values_in_elections t name = values-placed_flat name (elections t) ∙ ap (flat_map (entries_at name)) (election_values_are t)
 
 pub object_values : (f : Family) (t : Data) → map (λ o. o.value) (objects f t) ≡ family_values f t
@@ -78,26 +89,30 @@ outside r class.ElectionReport name is other = absurd (other (sym is))
 outside r c name is other = refl
 
 module _ (t u : Data) (R : Role → Data → Data → Type 0)
-    (array_matched : (r : Role) (d e : Data) → R r d e → (f : Family) (name : List ℕ) → bytes_eq name (codes "@type") ≡ false → ((c : Class) → role_of_class c ≡ r → IsOfKind name (kind.Keyed f) c)
-    → Matched (R (role.OfFamily f)) (entries_at name d) (entries_at name e)) where
-  pub in_election : (d e : Data) → R role.Election d e → (f : Family) (name : List ℕ) → bytes_eq name (codes "@type") ≡ false → kind_of_member class.Election name ≡ kind.Keyed f
-      → Matched (R (role.OfFamily f)) (entries_at name d) (entries_at name e)
-  in_election d e related f name other keyed = array_matched role.Election d e related f name other (λ c is. subst (IsOfKind name (kind.Keyed f)) (sym (election_class c is)) (keyed, refl))
+    (array_matched : (r : Role) (d e : Data) → R r d e → (f : Family) (name : List ℕ) → bytes_eq name (codes "@type") ≡ false
+    → ((c : Class) → role_of_class c ≡ r → IsOfKind name (kind.Keyed f) c) → Matched (R (role.OfFamily f)) (entries_at name d) (entries_at name e)) where
+  pub in_election : (d e : Data) → R role.Election d e → (f : Family) (name : List ℕ) → bytes_eq name (codes "@type") ≡ false
+      → kind_of_member class.Election name ≡ kind.Keyed f → Matched (R (role.OfFamily f)) (entries_at name d) (entries_at name e)
+  in_election d e related f name other keyed = array_matched role.Election d e related f name other
+      (λ c is. subst (IsOfKind name (kind.Keyed f)) (sym (election_class c is)) (keyed, refl))
 
   -- the selections of contests that are related
-  pub chosen_matched : (x y : Data) → R (role.OfFamily family.Contest) x y → Matched (R (role.OfFamily family.Selection)) (entries_at (codes "ContestSelection") x) (entries_at (codes "ContestSelection") y)
+  pub chosen_matched : (x y : Data) → R (role.OfFamily family.Contest) x y → Matched (R (role.OfFamily family.Selection))
+      (entries_at (codes "ContestSelection") x) (entries_at (codes "ContestSelection") y)
   chosen_matched x y r =
       array_matched (role.OfFamily family.Contest) x y r family.Selection (codes "ContestSelection") refl
       (λ c is. (contest_selections c is, outside (role.OfFamily family.Contest) c (codes "ContestSelection") is (λ x. cc)))
 
   module _ (root : R role.Report t u) where
-    pub in_report : (f : Family) (name : List ℕ) → bytes_eq name (codes "@type") ≡ false → is_envelope_name name ≡ false → kind_of_member class.ElectionReport name ≡ kind.Keyed f
-        → Matched (R (role.OfFamily f)) (entries_at name t) (entries_at name u)
-    in_report f name other apart keyed = array_matched role.Report t u root f name other (λ c is. subst (IsOfKind name (kind.Keyed f)) (sym (report_class c is)) (keyed, apart))
+    pub in_report : (f : Family) (name : List ℕ) → bytes_eq name (codes "@type") ≡ false → is_envelope_name name ≡ false
+        → kind_of_member class.ElectionReport name ≡ kind.Keyed f → Matched (R (role.OfFamily f)) (entries_at name t) (entries_at name u)
+    in_report f name other apart keyed = array_matched role.Report t u root f name other
+        (λ c is. subst (IsOfKind name (kind.Keyed f)) (sym (report_class c is)) (keyed, apart))
 
     module _ (elections : Matched (R role.Election) (entries_at (codes "Election") t) (entries_at (codes "Election") u)) where
       in_elections : (f : Family) (name : List ℕ) → bytes_eq name (codes "@type") ≡ false → kind_of_member class.Election name ≡ kind.Keyed f
-          → Matched (R (role.OfFamily f)) (flat_map (entries_at name) (entries_at (codes "Election") t)) (flat_map (entries_at name) (entries_at (codes "Election") u))
+          → Matched (R (role.OfFamily f)) (flat_map (entries_at name) (entries_at (codes "Election") t))
+          (flat_map (entries_at name) (entries_at (codes "Election") u))
       in_elections f name other keyed = matched_flat (entries_at name) (entries_at name) (λ x y h r. in_election x y r f name other keyed) elections
 
       pub families_matched : (f : Family) → Matched (R (role.OfFamily f)) (family_values f t) (family_values f u)
@@ -110,7 +125,8 @@ module _ (t u : Data) (R : Role → Data → Data → Type 0)
       families_matched family.Contest = in_elections family.Contest (codes "Contest") refl refl
       families_matched family.Style = in_elections family.Style (codes "BallotStyle") refl refl
       families_matched family.Selection =
-          matched_flat (entries_at (codes "ContestSelection")) (entries_at (codes "ContestSelection")) (λ x y h r. chosen_matched x y r) (in_elections family.Contest (codes "Contest") refl refl)
+          matched_flat (entries_at (codes "ContestSelection")) (entries_at (codes "ContestSelection")) (λ x y h r. chosen_matched x y r)
+          (in_elections family.Contest (codes "Contest") refl refl)
 
 -- ---- the `@id`s of a report: what shares one, what a text names, and which texts are `@id`s
 
@@ -164,7 +180,8 @@ module _ (π : Preference) (t : Data) (accepted : IsAccepted π t) where
       (one_id π t s.0 f f i j (no_identity_fault π t accepted) (id_at f i o s.0 a s.1) (id_at f j p s.0 b s.2)).1)))
 
   -- and objects that do are of one family
-  pub one_family : (f g : Family) (d e : Data) (id : List ℕ) → In d (family_values f t) → In e (family_values g t) → id_of d ≡ Some id → id_of e ≡ Some id → f ≡ g
+  pub one_family : (f g : Family) (d e : Data) (id : List ℕ) → In d (family_values f t) → In e (family_values g t) → id_of d ≡ Some id
+      → id_of e ≡ Some id → f ≡ g
   one_family f g d e id h k a b =
       let o = value_placed f t d h in
       let p = value_placed g t e k in
@@ -184,11 +201,13 @@ module _ (π : Preference) (t : Data) (accepted : IsAccepted π t) where
       let s = string_from_text d (wanted_within t (no_shape_fault π t accepted) (asked (Reference f) d) w) in
       (s.0, s.1, owned π t accepted f s.0 (subst (λ x. Within t (asked (Reference f) x)) s.1 w))
 
-  pub references_refer : (f : Family) (r : Bool) (ds : Items) → Within t (asked (Member (kind.Many f) r) (array ds)) → AllByRecursion (Refers t f) (list_of_items ds)
+  pub references_refer : (f : Family) (r : Bool) (ds : Items) → Within t (asked (Member (kind.Many f) r) (array ds))
+      → AllByRecursion (Refers t f) (list_of_items ds)
   references_refer f r ds w =
       all_items (Refers t f) ds
       (λ i d e. reference_refers f d (unrepeated_reference π t accepted f d (is_repeated ds i d)
-      (Within-step t (asked (Member (kind.Many f) r) (array ds)) (record { want = Reference f; value = d; repeated = is_repeated ds i d }) (At i) w (rw e refl))))
+      (Within-step t (asked (Member (kind.Many f) r) (array ds)) (record { want = Reference f; value = d; repeated = is_repeated ds i d })
+      (At i) w (rw e refl))))
 
 -- ---- what a value is, by what the table asks of it: so an `@id` that it asks for is that of an object of a family
 
@@ -214,10 +233,12 @@ module _ (t : Data) (ms : Members) (x : Data) where
   top_entry : (name : List ℕ) → object ms ≡ t → get_member name ms ≡ Some x → (y : Data) → In y (entries_of x) → In y (entries_at name t)
   top_entry name part found y h = subst (λ z. In y (entries_at name z)) part (found_entry name ms x y found h)
 
-  nested_entry : (name : List ℕ) (ds : List Data) → In (object ms) ds → get_member name ms ≡ Some x → (y : Data) → In y (entries_of x) → In y (flat_map (entries_at name) ds)
+  nested_entry : (name : List ℕ) (ds : List Data) → In (object ms) ds → get_member name ms ≡ Some x → (y : Data) → In y (entries_of x)
+      → In y (flat_map (entries_at name) ds)
   nested_entry name ds part found y h = In-flat_map (entries_at name) y (object ms) ds part (found_entry name ms x y found h)
 
-  home_entry : (r : Role) (f : Family) → holds r f ≡ true → IsPart t (Object r) (object ms) → get_member (member_name f) ms ≡ Some x → (y : Data) → In y (entries_of x) → In y (family_values f t)
+  home_entry : (r : Role) (f : Family) → holds r f ≡ true → IsPart t (Object r) (object ms) → get_member (member_name f) ms ≡ Some x → (y : Data)
+      → In y (entries_of x) → In y (family_values f t)
   home_entry role.Report family.Unit p part found = top_entry (codes "GpUnit") part found
   home_entry role.Report family.Party p part found = top_entry (codes "Party") part found
   home_entry role.Report family.Person p part found = top_entry (codes "Person") part found
@@ -229,17 +250,19 @@ module _ (t : Data) (ms : Members) (x : Data) where
   home_entry (role.OfFamily family.Contest) family.Selection p part found = nested_entry (codes "ContestSelection") (family_values family.Contest t) part found
   home_entry r f p part found = cc
 
-  elections_part : (r : Role) → is_report_role r ≡ true → IsPart t (Object r) (object ms) → get_member (codes "Election") ms ≡ Some x → (y : Data) → In y (entries_of x) → In y (entries_at (codes "Election") t)
+  elections_part : (r : Role) → is_report_role r ≡ true → IsPart t (Object r) (object ms) → get_member (codes "Election") ms ≡ Some x → (y : Data)
+      → In y (entries_of x) → In y (entries_at (codes "Election") t)
   elections_part role.Report p part found = top_entry (codes "Election") part found
   elections_part r p part found = cc
 
-  id_part : (r : Role) → is_some (family_of_role r) ≡ true → IsPart t (Object r) (object ms) → get_member (codes "@id") ms ≡ Some x → (s : List ℕ) → x ≡ string s → IsId t s
+  id_part : (r : Role) → is_some (family_of_role r) ≡ true → IsPart t (Object r) (object ms) → get_member (codes "@id") ms ≡ Some x → (s : List ℕ)
+      → x ≡ string s → IsId t s
   id_part (role.OfFamily f) p part found s e = record { family = f; value = object ms; stands = part; is = ap (option_and_then as_str) (found ∙ ap Some e) }
   id_part r p part found s e = cc
 
   -- a member of this kind
-  kind_part : (r : Role) (c : Class) (n : List ℕ) (k : MemberKind) (required : Bool) → role_of_class c ≡ r → is_home c n k ≡ true → IsPart t (Object r) (object ms) → get_member n ms ≡ Some x
-      → IsPart t (want_of_kind k required) x
+  kind_part : (r : Role) (c : Class) (n : List ℕ) (k : MemberKind) (required : Bool) → role_of_class c ≡ r → is_home c n k ≡ true
+      → IsPart t (Object r) (object ms) → get_member n ms ≡ Some x → IsPart t (want_of_kind k required) x
   kind_part r c n (kind.One f) required role at part found = tt
   kind_part r c n kind.Carried required role at part found = tt
   kind_part r c n (kind.Keyed f) required role at part found =
@@ -254,17 +277,20 @@ module _ (t : Data) (ms : Members) (x : Data) where
   kind_part r c n (kind.Many f) required role at part found = at
   kind_part r c n k required role at part found = tt
 
-  member_part : (r : Role) (c : Class) (n : List ℕ) → role_of_class c ≡ r → bytes_eq n (codes "@type") ≡ false → IsPart t (Object r) (object ms) → get_member n ms ≡ Some x → IsPart t (member_want c n) x
+  member_part : (r : Role) (c : Class) (n : List ℕ) → role_of_class c ≡ r → bytes_eq n (codes "@type") ≡ false → IsPart t (Object r) (object ms)
+      → get_member n ms ≡ Some x → IsPart t (member_want c n) x
   member_part r c n role no_type part found = at (is_report_class c && bytes_eq n (codes "Status"))
     where
       at : (b : Bool) → IsPart t (cond b Status (want_of_kind (kind_of_member c n) (is_required c n))) x
       at true = tt
       at false = kind_part r c n (kind_of_member c n) (is_required c n) role (home c n) part found
 
-  class_part : (r : Role) (n : List ℕ) (o : Option Class) → class_of_object r (object ms) ≡ o → IsPart t (Object r) (object ms) → get_member n ms ≡ Some x → PartOf t (want_of_name (scope.Members r o) n) x
+  class_part : (r : Role) (n : List ℕ) (o : Option Class) → class_of_object r (object ms) ≡ o → IsPart t (Object r) (object ms) → get_member n ms ≡ Some x
+      → PartOf t (want_of_name (scope.Members r o) n) x
   class_part r n o among part found = at (bytes_eq n (codes "@type")) refl o among
     where
-      at : (b : Bool) → bytes_eq n (codes "@type") ≡ b → (o : Option Class) → class_of_object r (object ms) ≡ o → PartOf t (cond b (Some (ClassText r)) (option_map (λ c. member_want c n) o)) x
+      at : (b : Bool) → bytes_eq n (codes "@type") ≡ b → (o : Option Class) → class_of_object r (object ms) ≡ o
+          → PartOf t (cond b (Some (ClassText r)) (option_map (λ c. member_want c n) o)) x
       at true is o among = tt
       at false is None among = tt
       at false is (Some c) among = member_part r c n (class_role r (object ms) c among) is part found
@@ -290,7 +316,8 @@ part_at t p a stands =
     (λ w ds i v x part asks found. subst (λ o. PartOf t o x) asks (entry_part t w ds i x part found)) (asked (Object role.Report) t) p a refl stands
 
 -- the text where an `@id` is asked for is the `@id` of an object
-pub asked_id : (t : Data) (p : List Step) (a : Asked) (required : Bool) (s : List ℕ) → asked_at t p ≡ Some a → a.want ≡ Member kind.Identity required → a.value ≡ string s → IsId t s
+pub asked_id : (t : Data) (p : List Step) (a : Asked) (required : Bool) (s : List ℕ) → asked_at t p ≡ Some a → a.want ≡ Member kind.Identity required
+    → a.value ≡ string s → IsId t s
 asked_id t p a required s stands want text =
     let part : IsPart t (Member kind.Identity required) a.value = subst (λ w. IsPart t w a.value) want (part_at t p a stands) in
     part s text

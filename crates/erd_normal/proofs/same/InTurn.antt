@@ -1,5 +1,13 @@
 -- Reports that say the same in turn: what each reference came from, and what three reports say.
-use Rattle.erd_normal.proofs.Common.{◌≡◌, ℕ, Bool, true, ◌&&◌, ◌⊎◌, List, [], ◌∷◌, Some, None, Option, option_map, option_and_then, sym, refl, ap, ◌∙◌, subst, inl, inr, Data, array, object, Items, Members, get_member, get_item, role, Step, At, Name, list_of_items-place, Within-step, Within-root, within-tree, Within, is_reference, IsTree, list_of_items, scope_inside, want_of_name, entry_want, is_compared_set, Asked, asked, is_repeated, asked_of_member, asked_inside, asked_from, asked_at, Want, Object, Sides, a_list, a_set, an_object, Same, SameMembers, MayBeAbsent, false, no_items, class, MemberKind, kind, member_want, asked_of_entry, Scope, scope, Member, Reference, is_envelope, an_empty_array, of_the_envelope, an_unused_id, option_map_or, ⊎_elim, IsPermutation, IsPermutation-sym, IsPermutation-trans, string, item, no_members, member, is_id_text, SaysInTurn, NameOneThing, IsUnused, not_asked, a_null, a_flag, a_number, a_text, an_id, no_entry, one_entry, no_member, in_both, left_only, right_only, SameEntries, true≢false}
+use Rattle.erd_normal.proofs.Common.{◌≡◌, ℕ, Bool, true, ◌&&◌, ◌⊎◌, List, [], ◌∷◌, Some, None, Option, option_map, option_and_then, sym, refl, ap, ◌∙◌, subst}
+use Rattle.erd_normal.proofs.Common.{inl, inr, Data, array, object, Items, Members, get_member, get_item, role, Step, At, Name, list_of_items-place}
+use Rattle.erd_normal.proofs.Common.{Within-step, Within-root, within-tree, Within, is_reference, IsTree, list_of_items, scope_inside, want_of_name, entry_want}
+use Rattle.erd_normal.proofs.Common.{is_compared_set, Asked, asked, is_repeated, asked_of_member, asked_inside, asked_from, asked_at, Want, Object, Sides}
+use Rattle.erd_normal.proofs.Common.{a_list, a_set, an_object, Same, SameMembers, MayBeAbsent, false, no_items, class, MemberKind, kind, member_want}
+use Rattle.erd_normal.proofs.Common.{asked_of_entry, Scope, scope, Member, Reference, is_envelope, an_empty_array, of_the_envelope, an_unused_id, option_map_or}
+use Rattle.erd_normal.proofs.Common.{⊎_elim, IsPermutation, IsPermutation-sym, IsPermutation-trans, string, item, no_members, member, is_id_text, SaysInTurn}
+use Rattle.erd_normal.proofs.Common.{NameOneThing, IsUnused, not_asked, a_null, a_flag, a_number, a_text, an_id, no_entry, one_entry, no_member, in_both}
+use Rattle.erd_normal.proofs.Common.{left_only, right_only, SameEntries, true≢false}
 use Rattle.erd_normal.proofs.lists.Matched.{Matched, matched_back}
 use Rattle.erd_normal.proofs.same.Related.{entry_has, entries_matched, same_back, set_swapped, turned}
 use Rattle.erd_normal.proofs.same.Lookups.{Aligned, both_there, not_both, lookups, MayLack, scope_same, plain_scope, is_plain, AllPlain}
@@ -31,7 +39,8 @@ quiet_name w ms n v h asks = quiet_plain v (subst AllPlain asks (plain_scope w m
 
 pub quiet_step : (w : Want) (d : Data) (s : Step) (c : Asked) → is_quiet w ≡ true → asked_inside w d s ≡ Some c → is_quiet c.want ≡ true
 quiet_step =
-    one_inside (λ w d. is_quiet w ≡ true) (λ w ms n v x h asks found. quiet_name w ms n v h asks) (λ w ds i v x h asks found. subst (λ o. option_map_or is_quiet o true ≡ true) asks (quiet_entry w h))
+    one_inside (λ w d. is_quiet w ≡ true) (λ w ms n v x h asks found. quiet_name w ms n v h asks)
+    (λ w ds i v x h asks found. subst (λ o. option_map_or is_quiet o true ≡ true) asks (quiet_entry w h))
 
 pub quiet_from : (a : Asked) (ss : List Step) (c : Asked) → is_quiet a.want ≡ true → asked_from a ss ≡ Some c → is_quiet c.want ≡ true
 quiet_from = along (λ x. is_quiet x.want ≡ true) (λ x y s. quiet_step x.want x.value s y)
@@ -42,7 +51,8 @@ quiet_from = along (λ x. is_quiet x.want ≡ true) (λ x y s. quiet_step x.want
 pub envelope_quiet : (s : Scope) (n : List ℕ) (v : Want) → is_envelope s n ≡ true → want_of_name s n ≡ Some v → is_quiet v ≡ true
 envelope_quiet (scope.Members r (Some class.ElectionReport)) n v h asks =
     subst (λ o. option_map_or is_quiet o true ≡ true) asks
-    (known_passes is_quiet r class.ElectionReport n refl (λ other. of_envelope (λ n. is_quiet (member_want class.ElectionReport n) ≡ true) refl refl refl refl refl refl refl refl refl n h))
+    (known_passes is_quiet r class.ElectionReport n refl (λ other. of_envelope (λ n. is_quiet (member_want class.ElectionReport n) ≡ true) refl refl refl refl
+    refl refl refl refl refl n h))
 envelope_quiet s n v h asks = cc
 
 nothing_in_no_items : (o : Option Want) (set : Bool) (i : ℕ) → asked_of_entry o set no_items i ≡ None
@@ -60,8 +70,8 @@ member_no_reference : (k : MemberKind) (required : Bool) (w : Want) → Some w �
 member_no_reference k required w e r = let one : w ≡ Member k required = cc in let g : true ≡ false = sym r ∙ ap is_reference one in cc
 
 -- no reference stands at or in it
-pub no_reference_absent : (t : Data) (s : Scope) (n : List ℕ) (v : Want) (d : Data) → MayBeAbsent t s n d → want_of_name s n ≡ Some v → (ss : List Step) (c : Asked) → asked_from (asked v d) ss ≡ Some c
-    → is_reference c.want ≡ true → ⊥
+pub no_reference_absent : (t : Data) (s : Scope) (n : List ℕ) (v : Want) (d : Data) → MayBeAbsent t s n d → want_of_name s n ≡ Some v
+    → (ss : List Step) (c : Asked) → asked_from (asked v d) ss ≡ Some c → is_reference c.want ≡ true → ⊥
 no_reference_absent t s n v d (an_empty_array k required asks_too is empty) asks [] c e r =
     let one : asked v d ≡ c = cc in member_no_reference k required v (sym asks ∙ asks_too) (ap (λ (x : Asked). is_reference x.want) one ∙ r)
 no_reference_absent t s n v d (an_empty_array k required asks_too is empty) asks (x ∷ ss) c e r =
@@ -108,14 +118,15 @@ module _ (m : Sides) (t u : Data) (left_tree : IsTree t) (right_tree : IsTree u)
   -- it holds in what stands in the right object alone
   abbrev pub HoldsAlone : Asked → Data → Type 0
   HoldsAlone a e =
-      (ms ns : Members) (n : List ℕ) (v : Want) (f : Data) → a.value ≡ object ms → e ≡ object ns → scope_inside a.want (object ms) ≡ scope_inside a.want (object ns)
-      → MayLack m.left (scope_inside a.want (object ms)) n (get_member n ms) → get_member n ns ≡ Some f → want_of_name (scope_inside a.want (object ms)) n ≡ Some v
-      → MayBeAbsent m.right (scope_inside a.want (object ms)) n f → Inside Q (asked v f)
+      (ms ns : Members) (n : List ℕ) (v : Want) (f : Data) → a.value ≡ object ms → e ≡ object ns → scope_inside a.want (object ms)
+      ≡ scope_inside a.want (object ns) → MayLack m.left (scope_inside a.want (object ms)) n (get_member n ms) → get_member n ns ≡ Some f
+      → want_of_name (scope_inside a.want (object ms)) n ≡ Some v → MayBeAbsent m.right (scope_inside a.want (object ms)) n f → Inside Q (asked v f)
 
   abbrev OneStep : Asked → Type 0
   OneStep c = CameFrom m t c ⊎ Inside Q c
 
-  name_step : (a : Asked) (n : List ℕ) (ms ns : Members) → Within t a → a.value ≡ object ms → scope_inside a.want (object ms) ≡ scope_inside a.want (object ns) → HoldsAlone a (object ns)
+  name_step : (a : Asked) (n : List ℕ) (ms ns : Members) → Within t a → a.value ≡ object ms → scope_inside a.want (object ms) ≡ scope_inside a.want (object ns)
+      → HoldsAlone a (object ns)
       → (o p : Option Data) → get_member n ms ≡ o → get_member n ns ≡ p → Aligned m (scope_inside a.want (object ms)) n o p
       → (v : Option Want) → want_of_name (scope_inside a.want (object ms)) n ≡ v → (c : Asked) → asked_of_member v p ≡ Some c → OneStep c
   name_step a n ms ns inside value scopes alone o p found found' aligned None asks c e = cc
@@ -130,9 +141,11 @@ module _ (m : Sides) (t u : Data) (left_tree : IsTree t) (right_tree : IsTree u)
       }))
   name_step a n ms ns inside value scopes alone o (Some f) found found' (not_both l r) (Some v) asks c e =
       let one : asked v f ≡ c = cc in
-      inr (subst (Inside Q) one (alone ms ns n v f value refl scopes (subst (MayLack m.left (scope_inside a.want (object ms)) n) (sym found) l) found' asks (r.each f refl)))
+      inr (subst (Inside Q) one (alone ms ns n v f value refl scopes (subst (MayLack m.left (scope_inside a.want (object ms)) n) (sym found) l)
+      found' asks (r.each f refl)))
 
-  entry_step : (a : Asked) (i : ℕ) (ds es : Items) → Within t a → a.value ≡ array ds → (v : Option Want) → entry_want a.want ≡ v → Matched (Same m v) (list_of_items ds) (list_of_items es)
+  entry_step : (a : Asked) (i : ℕ) (ds es : Items) → Within t a → a.value ≡ array ds → (v : Option Want) → entry_want a.want ≡ v
+      → Matched (Same m v) (list_of_items ds) (list_of_items es)
       → (o : Option Data) → get_item i es ≡ o → (set : Bool) (c : Asked)
       → option_and_then {U = Asked} (λ w. option_map (λ d. record { want = w; value = d; repeated = set && is_repeated es i d }) o) v ≡ Some c → OneStep c
   entry_step a i ds es inside value None asks matched o found set c e = cc
@@ -149,7 +162,8 @@ module _ (m : Sides) (t u : Data) (left_tree : IsTree t) (right_tree : IsTree u)
         same = from.2;
       }))
 
-  one_step : (a : Asked) (e : Data) (s : Step) → Within t a → Same m (Some a.want) a.value e → IsTree e → HoldsAlone a e → (c : Asked) → asked_inside a.want e s ≡ Some c → OneStep c
+  one_step : (a : Asked) (e : Data) (s : Step) → Within t a → Same m (Some a.want) a.value e → IsTree e → HoldsAlone a e → (c : Asked)
+      → asked_inside a.want e s ≡ Some c → OneStep c
   one_step a (object ns) (Name n) inside same tree alone c found =
       let f = from_object m a.want a.value ns same in
       let scopes = scope_same m a.want f.ms ns f.same in
@@ -158,31 +172,38 @@ module _ (m : Sides) (t u : Data) (left_tree : IsTree t) (right_tree : IsTree u)
       (want_of_name (scope_inside a.want (object f.ms)) n) refl c (ap (λ s. asked_of_member (want_of_name s n) (get_member n ns)) scopes ∙ found)
   one_step a (array es) (At i) inside same tree alone c found =
       let f = from_array m a.want a.value es same in
-      entry_step a i f.ds es inside f.is (entry_want a.want) refl (entries_matched m a.want (subst (λ x. Same m (Some a.want) x (array es)) f.is same)) (get_item i es) refl (is_compared_set a.want) c found
+      entry_step a i f.ds es inside f.is (entry_want a.want) refl (entries_matched m a.want (subst (λ x. Same m (Some a.want) x (array es)) f.is same))
+      (get_item i es) refl (is_compared_set a.want) c found
   one_step a e s inside same tree alone c found = cc
 
   -- along a place of the right report
   module _ (P First : Asked → Type 0) (keeps : (b x : Asked) (s : Step) → P b → asked_inside b.want b.value s ≡ Some x → P x)
       (alone : (b : Asked) → Within u b → P b → (from : CameFrom m t b) → HoldsAlone from.of b.value)
       (first : (b x : Asked) (s : Step) → Within u b → CameFrom m t b → asked_inside b.want b.value s ≡ Some x → First x) where
-    next : (b x : Asked) (s : Step) → Within u b → P b → (CameFrom m t b × First b) ⊎ Inside Q b → asked_inside b.want b.value s ≡ Some x → (CameFrom m t x × First x) ⊎ Inside Q x
+    next : (b x : Asked) (s : Step) → Within u b → P b → (CameFrom m t b × First b) ⊎ Inside Q b → asked_inside b.want b.value s ≡ Some x
+        → (CameFrom m t x × First x) ⊎ Inside Q x
     next b x s inside p (inr all) found = inr (λ ss c e. all (s ∷ ss) c (ap (option_and_then (λ y. asked_from y ss)) found ∙ e))
     next b x s inside p (inl from) found =
         ⊎_elim (λ f. inl (f, first b x s inside from.0 found)) inr
-        (one_step from.0.of b.value s from.0.inside (subst (λ w. Same m (Some w) from.0.of.value b.value) (sym from.0.want) from.0.same) (within-tree u b right_tree inside) (alone b inside p from.0) x
+        (one_step from.0.of b.value s from.0.inside (subst (λ w. Same m (Some w) from.0.of.value b.value) (sym from.0.want) from.0.same)
+        (within-tree u b right_tree inside) (alone b inside p from.0) x
         (ap (λ w. asked_inside w b.value s) from.0.want ∙ found))
 
-    pub came_along : (b : Asked) (ss : List Step) (c : Asked) → Within u b → P b → CameFrom m t b → First b → asked_from b ss ≡ Some c → (CameFrom m t c × First c) ⊎ Q c
+    pub came_along : (b : Asked) (ss : List Step) (c : Asked) → Within u b → P b → CameFrom m t b → First b → asked_from b ss ≡ Some c
+        → (CameFrom m t c × First c) ⊎ Q c
     came_along b ss c inside p from here e =
         ⊎_elim inl (λ all. inr (all [] c refl))
-        (along (λ x. Within u x × P x × ((CameFrom m t x × First x) ⊎ Inside Q x)) (λ x y s h found. (Within-step u x y s h.0 found, keeps x y s h.1 found, next x y s h.0 h.1 h.2 found)) b ss c (inside, p, inl (from, here)) e).2
+        (along (λ x. Within u x × P x × ((CameFrom m t x × First x) ⊎ Inside Q x))
+        (λ x y s h found. (Within-step u x y s h.0 found, keeps x y s h.1 found, next x y s h.0 h.1 h.2 found)) b ss c (inside, p, inl (from, here)) e).2
 
 -- each reference of the right report
-pub reference_came_from : (m : Sides) (t u : Data) → IsTree t → IsTree u → Same m (Some (Object role.Report)) t u → (p : List Step) (c : Asked) → asked_at u p ≡ Some c → is_reference c.want ≡ true → CameFrom m t c
+pub reference_came_from : (m : Sides) (t u : Data) → IsTree t → IsTree u → Same m (Some (Object role.Report)) t u → (p : List Step) (c : Asked) → asked_at u p
+    ≡ Some c → is_reference c.want ≡ true → CameFrom m t c
 reference_came_from m t u left_tree right_tree same p c e is =
     ⊎_elim (λ from. from.0) (λ none. absurd (none is))
     (came_along m t u left_tree right_tree (λ x. is_reference x.want ≡ true → ⊥) (λ x. Unit {0}) (λ x. Unit {0}) (λ b x s h found. tt)
-    (λ b inside h from ms ns n v f value here scopes lacks there asks may. no_reference_absent m.right (scope_inside from.of.want (object ms)) n v f may asks) (λ b x s inside from found. tt)
+    (λ b inside h from ms ns n v f value here scopes lacks there asks may. no_reference_absent m.right (scope_inside from.of.want (object ms)) n v f may asks)
+    (λ b x s inside from found. tt)
     (asked (Object role.Report) u) p c (Within-root u) tt (record { of = asked (Object role.Report) t; inside = Within-root t; want = refl; same = same }) tt e)
 
 -- ---- what may be absent, along the relation
@@ -258,7 +279,8 @@ module _ (t v u : Data) (there back there' back' : List ℕ → List ℕ) where
 
     -- the first member of the middle, which stands in the last too
     through_both : {s : Scope} {ms ns ps : Members} {k : List ℕ} {e c : Data} → SameMembers one s ms (member k e ns) → Same two (want_of_name s k) e c
-        → ((d : Data) → Same one (want_of_name s k) d e → Same whole (want_of_name s k) d c) → ((qs : Members) → SameMembers one s qs ns → SameMembers whole s qs ps) → SameMembers whole s ms (member k c ps)
+        → ((d : Data) → Same one (want_of_name s k) d e → Same whole (want_of_name s k) d c)
+        → ((qs : Members) → SameMembers one s qs ns → SameMembers whole s qs ps) → SameMembers whole s ms (member k c ps)
     through_both (in_both h more) g value rest = in_both (value _ h) (rest _ more)
     through_both (left_only h more) g value rest = left_only h (through_both more g value rest)
     through_both {s} {k = k} {e = e} {c = c} (right_only h more) g value rest = right_only (forth s k e c h g) (rest _ more)
@@ -296,8 +318,10 @@ module _ (t v u : Data) (there back there' back' : List ℕ → List ℕ) where
       members_in_turn no_member same h = only_left h
       members_in_turn (in_both {k = k} {d = e} {e = c} g more) same h =
           through_both h (subst (λ x. Same two (want_of_name x k) e c) (sym same) g)
-          (λ d i. subst (λ x. Same whole (want_of_name x k) d c) (sym same) (in_turn g (subst (λ x. Same one (want_of_name x k) d e) same i))) (λ qs i. members_in_turn more same i)
-      members_in_turn (left_only {k = k} {d = e} g more) same h = through_left h (subst (λ x. MayBeAbsent v x k e) (sym same) g) (λ qs i. members_in_turn more same i)
+          (λ d i. subst (λ x. Same whole (want_of_name x k) d c) (sym same) (in_turn g (subst (λ x. Same one (want_of_name x k) d e) same i)))
+          (λ qs i. members_in_turn more same i)
+      members_in_turn (left_only {k = k} {d = e} g more) same h =
+          through_left h (subst (λ x. MayBeAbsent v x k e) (sym same) g) (λ qs i. members_in_turn more same i)
       members_in_turn (right_only {k = k} {e = c} g more) same h = right_only (subst (λ x. MayBeAbsent u x k c) (sym same) g) (members_in_turn more same h)
 
 pub says_in_turn : SaysInTurn

@@ -1,11 +1,20 @@
 -- The worst case of the names of selections: a label with translations. Labels that say the same have one text, with their
 -- translations in rising order.
-use Rattle.erd_normal.proofs.Common.{◌≡◌, ℕ, Bool, true, false, List, [], ◌∷◌, ◌++◌, map, Some, None, codes, Option, bytes_eq, Ordering, Greater, sym, refl, ap, ◌∙◌, subst, ap₂, nat_list_cmp_total, exact_bytes, option_map_or, match_ordering, get_member-put, Data, null, array, object, Members, no_members, member, put, get_member, items_of, comma_if, compact_text, items_text, members_text, kind_of_member, text_cmp, class, role, kind, text_exact, members_unique, put-trees, kind_of_unlisted_has, IsTree, AreMembers, entries_of, entries_at, class_of_object, want_of_name, Scope, scope, Member, rising_list_map, rising_list, compact_cmp, with_rising_text, Sides, MayBeAbsent, Same, SameMembers, Items, list_of_items, Want, Object, JsonMap, JsonSet, Label, untranslated, translated, json_set, label_beside_text, label_of, a_set, is_id_text, NameOneThing, true≢false, IsPermutation, IsPermutation-map, IsPermutation-refl}
+use Rattle.erd_normal.proofs.Common.{◌≡◌, ℕ, Bool, true, false, List, [], ◌∷◌, ◌++◌, map, Some, None, codes, Option, bytes_eq, Ordering, Greater, sym, refl, ap}
+use Rattle.erd_normal.proofs.Common.{◌∙◌, subst, ap₂, nat_list_cmp_total, exact_bytes, option_map_or, match_ordering, get_member-put, Data, null, array, object}
+use Rattle.erd_normal.proofs.Common.{Members, no_members, member, put, get_member, items_of, comma_if, compact_text, items_text, members_text, kind_of_member}
+use Rattle.erd_normal.proofs.Common.{text_cmp, class, role, kind, text_exact, members_unique, put-trees, kind_of_unlisted_has, IsTree, AreMembers, entries_of}
+use Rattle.erd_normal.proofs.Common.{entries_at, class_of_object, want_of_name, Scope, scope, Member, rising_list_map, rising_list, compact_cmp}
+use Rattle.erd_normal.proofs.Common.{with_rising_text, Sides, MayBeAbsent, Same, SameMembers, Items, list_of_items, Want, Object, JsonMap, JsonSet, Label}
+use Rattle.erd_normal.proofs.Common.{untranslated, translated, json_set, label_beside_text, label_of, a_set, is_id_text, NameOneThing, true≢false}
+use Rattle.erd_normal.proofs.Common.{IsPermutation, IsPermutation-map, IsPermutation-refl}
 use Rattle.erd_normal.proofs.inside.Members.{put_elsewhere, put_twice}
 use Rattle.erd_normal.proofs.lists.Matched.{matched_equal}
 use Rattle.erd_normal.proofs.lists.Lists.{rising-reordered}
-use Rattle.erd_normal.proofs.same.Lookups.{Aligned, both_there, not_both, MayLack, lookups, of_object, lacks_none, merged, is_steady, is_steady_kind, stays_one, steady_of_kind, steady_same, is_plain, is_plain_kind, plain_of_kind, AllPlain, plain_entry, plain_no_id, plain_scope}
-use Rattle.erd_normal.proofs.same.Related.{entries_matched, lacking_empty, ApartBy, AreSound, itself, json_sets_reordered, alike_self, alike_same, entries_same, entries_self}
+use Rattle.erd_normal.proofs.same.Lookups.{Aligned, both_there, not_both, MayLack, lookups, of_object, lacks_none, merged, is_steady, is_steady_kind, stays_one}
+use Rattle.erd_normal.proofs.same.Lookups.{steady_of_kind, steady_same, is_plain, is_plain_kind, plain_of_kind, AllPlain, plain_entry, plain_no_id, plain_scope}
+use Rattle.erd_normal.proofs.same.Related.{entries_matched, lacking_empty, ApartBy, AreSound, itself, json_sets_reordered, alike_self, alike_same, entries_same}
+use Rattle.erd_normal.proofs.same.Related.{entries_self}
 use Rattle.erd_normal.proofs.inside.Walks.{known_passes}
 
 -- ---- texts of values in order
@@ -36,22 +45,26 @@ put_one_text b k d e (member l f ms) same = at (text_cmp k l) (put_one_text true
 -- lists with the same entries have the same texts in rising order
 rising_texts : {xs ys : List Data} → IsPermutation xs ys → map compact_text (rising_list compact_cmp xs) ≡ map compact_text (rising_list compact_cmp ys)
 rising_texts {xs = xs} {ys = ys} h =
-    rising_list_map compact_text text_cmp xs ∙ rising-reordered nat_list_cmp_total exact_bytes (IsPermutation-map compact_text _ _ h) ∙ sym (rising_list_map compact_text text_cmp ys)
+    rising_list_map compact_text text_cmp xs ∙ rising-reordered nat_list_cmp_total exact_bytes (IsPermutation-map compact_text _ _ h)
+    ∙ sym (rising_list_map compact_text text_cmp ys)
 
 -- ---- labels
 
 abbrev pub in_label : Scope
 in_label = scope.Members role.Label (Some class.InternationalizedText)
 
-pub plain_beside : (k : List ℕ) → bytes_eq k (codes "@type") ≡ false → bytes_eq k (codes "Text") ≡ false → is_plain_kind (kind_of_member class.InternationalizedText k) ≡ true
+pub plain_beside : (k : List ℕ) → bytes_eq k (codes "@type") ≡ false → bytes_eq k (codes "Text") ≡ false
+    → is_plain_kind (kind_of_member class.InternationalizedText k) ≡ true
 plain_beside k e f = rw f (kind_of_unlisted_has is_plain_kind class.InternationalizedText k e refl refl refl)
 
-pub steady_beside : (k : List ℕ) → bytes_eq k (codes "@type") ≡ false → bytes_eq k (codes "Text") ≡ false → is_steady_kind (kind_of_member class.InternationalizedText k) ≡ true
+pub steady_beside : (k : List ℕ) → bytes_eq k (codes "@type") ≡ false → bytes_eq k (codes "Text") ≡ false
+    → is_steady_kind (kind_of_member class.InternationalizedText k) ≡ true
 steady_beside k e f = rw f (kind_of_unlisted_has is_steady_kind class.InternationalizedText k e refl refl refl)
 
 -- all that is asked beside `Text` is plain
 pub all_plain_beside : (k : List ℕ) → bytes_eq k (codes "Text") ≡ false → AllPlain (want_of_name in_label k)
-all_plain_beside k other = known_passes is_plain role.Label class.InternationalizedText k refl (λ e. plain_of_kind (kind_of_member class.InternationalizedText k) _ (plain_beside k e other))
+all_plain_beside k other = known_passes is_plain role.Label class.InternationalizedText k refl
+    (λ e. plain_of_kind (kind_of_member class.InternationalizedText k) _ (plain_beside k e other))
 
 -- the members of labels of the class
 record LabelMembers (ms ns : Members) : Type 0 where
@@ -63,7 +76,8 @@ module _ (m : Sides) where
   beside_stays : (t : Data) (k : List ℕ) (d : Data) → bytes_eq k (codes "Text") ≡ false → MayBeAbsent t in_label k d → ⊥
   beside_stays t k d other h =
       stays_one t in_label k d
-      (known_passes is_steady role.Label class.InternationalizedText k refl (λ e. steady_of_kind (kind_of_member class.InternationalizedText k) _ (steady_beside k e other))) refl h
+      (known_passes is_steady role.Label class.InternationalizedText k refl
+      (λ e. steady_of_kind (kind_of_member class.InternationalizedText k) _ (steady_beside k e other))) refl h
 
   none_beside : (t : Data) (k : List ℕ) (o : Option Data) → bytes_eq k (codes "Text") ≡ false → MayLack t in_label k o → o ≡ None
   none_beside t k None other h = refl
@@ -87,15 +101,18 @@ module _ (m : Sides) where
   }
 
 -- with their translations in rising order they have one text
-text_of_members : (ms ns : Members) → AreMembers ms → AreMembers ns → LabelMembers ms ns → compact_text (with_rising_text (object ms)) ≡ compact_text (with_rising_text (object ns))
+text_of_members : (ms ns : Members) → AreMembers ms → AreMembers ns → LabelMembers ms ns → compact_text (with_rising_text (object ms))
+    ≡ compact_text (with_rising_text (object ns))
 text_of_members ms ns tree tree' h =
     let xs = rising_list compact_cmp (entries_at (codes "Text") (object ms)) in
     let ys = rising_list compact_cmp (entries_at (codes "Text") (object ns)) in
     let same : put (codes "Text") null ms ≡ put (codes "Text") null ns =
-    members_unique (put (codes "Text") null ms) (put (codes "Text") null ns) (put-trees (codes "Text") null ms tree tt) (put-trees (codes "Text") null ns tree' tt)
+    members_unique (put (codes "Text") null ms) (put (codes "Text") null ns) (put-trees (codes "Text") null ms tree tt)
+    (put-trees (codes "Text") null ns tree' tt)
     (λ k. at k (bytes_eq k (codes "Text")) refl) in
     let one : put (codes "Text") (array (items_of xs)) ms ≡ put (codes "Text") (array (items_of xs)) ns =
-    sym (put_twice (codes "Text") (array (items_of xs)) null ms) ∙ ap (put (codes "Text") (array (items_of xs))) same ∙ put_twice (codes "Text") (array (items_of xs)) null ns in
+    sym (put_twice (codes "Text") (array (items_of xs)) null ms) ∙ ap (put (codes "Text") (array (items_of xs))) same
+    ∙ put_twice (codes "Text") (array (items_of xs)) null ns in
     ap (λ x. compact_text (object x)) one
     ∙ ap (λ s. 123 ∷ s) (put_one_text false (codes "Text") (array (items_of xs)) (array (items_of ys)) ns (array_one_text xs ys (rising_texts h.texts)))
   where
@@ -106,12 +123,14 @@ text_of_members ms ns tree tree' h =
     at k false is = put_elsewhere k (codes "Text") null ms is ∙ h.beside k is ∙ sym (put_elsewhere k (codes "Text") null ns is)
 
 -- labels that are objects
-pub label_text : (m : Sides) (required : Bool) (ms : Members) (e : Data) → class_of_object role.Label (object ms) ≡ Some class.InternationalizedText → IsTree (object ms) → IsTree e
+pub label_text : (m : Sides) (required : Bool) (ms : Members) (e : Data) → class_of_object role.Label (object ms) ≡ Some class.InternationalizedText
+    → IsTree (object ms) → IsTree e
     → Same m (Some (Member kind.Label required)) (object ms) e → compact_text (with_rising_text (object ms)) ≡ compact_text (with_rising_text e)
 label_text m required ms e among left right h =
     let o = of_object m (Member kind.Label required) ms e h in
     let tree : AreMembers o.members = subst IsTree o.is_object right in
-    text_of_members ms o.members left tree (label_members m ms o.members left tree (subst (λ c. SameMembers m (scope.Members role.Label c) ms o.members) among o.same))
+    text_of_members ms o.members left tree
+    (label_members m ms o.members left tree (subst (λ c. SameMembers m (scope.Members role.Label c) ms o.members) among o.same))
     ∙ sym (ap (λ x. compact_text (with_rising_text x)) o.is_object)
 
 -- ---- completeness: labels of one class that mean the same say the same
@@ -149,9 +168,10 @@ module _ (m : Sides) where
   texts_same ds es h =
       a_set es refl h (entries_same (entries_self m AllPlain (plain_text m) plain_entry plain_scope (Some (Object role.Language)) es refl))
 
-  pub labels_say : (ms ns : Members) → AreMembers ms → AreMembers ns → (left : Translations ms) (right : Translations ns) → get_member (codes "@type") ms ≡ get_member (codes "@type") ns
-      → label_of (object ms) ≡ label_of (object ns) → SameMembers m in_label ms ns
-  labels_say ms ns tree tree' left right types same = merged m in_label ms ns tree tree' (λ k. at k (bytes_eq k (codes "Text")) (bytes_eq k (codes "@type")) refl refl)
+  pub labels_say : (ms ns : Members) → AreMembers ms → AreMembers ns → (left : Translations ms) (right : Translations ns) → get_member (codes "@type") ms
+      ≡ get_member (codes "@type") ns → label_of (object ms) ≡ label_of (object ns) → SameMembers m in_label ms ns
+  labels_say ms ns tree tree' left right types same =
+      merged m in_label ms ns tree tree' (λ k. at k (bytes_eq k (codes "Text")) (bytes_eq k (codes "@type")) refl refl)
     where
       sets : json_set (list_of_items left.items) ≡ json_set (list_of_items right.items)
       sets = let h = ap set_of same in rw (left.stands, right.stands) at h
@@ -160,7 +180,10 @@ module _ (m : Sides) where
       at k true b is type =
           let name : k ≡ codes "Text" = text_exact k (codes "Text") is in
           subst (λ x. Aligned m in_label x (get_member x ms) (get_member x ns)) (sym name)
-          (rw (left.stands, right.stands) (both_there (texts_same left.items right.items (json_sets_reordered (list_of_items left.items) (list_of_items right.items) left.sound right.sound left.apart right.apart sets))))
+          (rw (left.stands, right.stands)
+          (both_there
+          (texts_same left.items right.items (json_sets_reordered (list_of_items left.items) (list_of_items right.items) left.sound right.sound
+          left.apart right.apart sets))))
       at k false true is type =
           let name : k ≡ codes "@type" = text_exact k (codes "@type") type in
           equal_aligned in_label k (get_member k ms) (get_member k ns) (all_plain_beside k is)

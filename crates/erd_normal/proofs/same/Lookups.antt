@@ -1,12 +1,21 @@
 -- What stands under a name in objects that say the same, and members that say the same only where they are equal.
-use Rattle.erd_normal.proofs.Common.{◌≡◌, ℕ, List, Some, None, Option, nat_cmp, Ordering, Equal, sym, refl, ap, ◌∙◌, subst, slice_cmp, match_ordering, Data, object, Members, member, get_member, get_member-before, text_from_equal, AreMembers, scope_inside, want_of_name, Scope, Want, Sides, an_object, no_member, in_both, left_only, right_only, MayBeAbsent, Same, SameMembers, true, false, codes, option_and_then, bytes_eq, as_str, class_in_role, Class, class, Role, role, kind, class_of_object, scope_of_object, member_want, scope, Carried, ClassText, Member, Object, is_id_text, is_envelope, an_empty_array, of_the_envelope, an_unused_id, an_id, option_map_or, true≢false, Less, Greater, nat_list_cmp_total, ordering_reverse, no_members, text_cmp, get_member-first, IsBeforeFirst, Bool, not, ap₂, not-true, array, Items, item, MemberKind, want_of_kind, entry_want, is_table_set, Reference, class_role, is_array_kind, a_list, a_set, no_entry, one_entry, SameEntries, false_from_ne_true, is_envelope_name}
+use Rattle.erd_normal.proofs.Common.{◌≡◌, ℕ, List, Some, None, Option, nat_cmp, Ordering, Equal, sym, refl, ap, ◌∙◌, subst, slice_cmp, match_ordering, Data}
+use Rattle.erd_normal.proofs.Common.{object, Members, member, get_member, get_member-before, text_from_equal, AreMembers, scope_inside, want_of_name, Scope}
+use Rattle.erd_normal.proofs.Common.{Want, Sides, an_object, no_member, in_both, left_only, right_only, MayBeAbsent, Same, SameMembers, true, false, codes}
+use Rattle.erd_normal.proofs.Common.{option_and_then, bytes_eq, as_str, class_in_role, Class, class, Role, role, kind, class_of_object, scope_of_object}
+use Rattle.erd_normal.proofs.Common.{member_want, scope, Carried, ClassText, Member, Object, is_id_text, is_envelope, an_empty_array, of_the_envelope}
+use Rattle.erd_normal.proofs.Common.{an_unused_id, an_id, option_map_or, true≢false, Less, Greater, nat_list_cmp_total, ordering_reverse, no_members, text_cmp}
+use Rattle.erd_normal.proofs.Common.{get_member-first, IsBeforeFirst, Bool, not, ap₂, not-true, array, Items, item, MemberKind, want_of_kind, entry_want}
+use Rattle.erd_normal.proofs.Common.{is_table_set, Reference, class_role, is_array_kind, a_list, a_set, no_entry, one_entry, SameEntries, false_from_ne_true}
+use Rattle.erd_normal.proofs.Common.{is_envelope_name}
 use Rattle.erd_normal.proofs.inside.Walks.{closed_names, is_apart_role, is_closed}
 
 -- ---- what stands under a name in objects that say the same: in both, or it may be absent; and members from what stands under
 -- names
 
 -- what stands under a name among members is the first value, or what stands under it among the others
-pub get_one : (Q : Option Data → Type 0) (n k : List ℕ) (d : Data) (ms : Members) → (n ≡ k → Q (Some d)) → Q (get_member n ms) → Q (get_member n (member k d ms))
+pub get_one : (Q : Option Data → Type 0) (n k : List ℕ) (d : Data) (ms : Members) → (n ≡ k → Q (Some d)) → Q (get_member n ms)
+    → Q (get_member n (member k d ms))
 get_one Q n k d ms first later = at (slice_cmp nat_cmp n k) refl
   where
     at : (o : Ordering) → slice_cmp nat_cmp n k ≡ o → Q (match_ordering o (get_member n ms) (Some d) (get_member n ms))
@@ -14,8 +23,8 @@ get_one Q n k d ms first later = at (slice_cmp nat_cmp n k) refl
     at o is = later
 
 -- the same of two lists of members
-pub get_both : (Q : Option Data → Option Data → Type 0) (n k : List ℕ) (d e : Data) (ms ns : Members) → (n ≡ k → Q (Some d) (Some e)) → Q (get_member n ms) (get_member n ns)
-    → Q (get_member n (member k d ms)) (get_member n (member k e ns))
+pub get_both : (Q : Option Data → Option Data → Type 0) (n k : List ℕ) (d e : Data) (ms ns : Members) → (n ≡ k → Q (Some d) (Some e))
+    → Q (get_member n ms) (get_member n ns) → Q (get_member n (member k d ms)) (get_member n (member k e ns))
 get_both Q n k d e ms ns first later = at (slice_cmp nat_cmp n k) refl
   where
     at : (o : Ordering) → slice_cmp nat_cmp n k ≡ o
@@ -47,7 +56,8 @@ module _ (m : Sides) where
   left_lacks s n (Some d) (Some e) (both_there h) is = cc
   left_lacks s n o p (not_both h k) is = h
 
-  pub lookups : {s : Scope} {ms ns : Members} (n : List ℕ) → SameMembers m s ms ns → AreMembers ms → AreMembers ns → Aligned m s n (get_member n ms) (get_member n ns)
+  pub lookups : {s : Scope} {ms ns : Members} (n : List ℕ) → SameMembers m s ms ns → AreMembers ms → AreMembers ns
+      → Aligned m s n (get_member n ms) (get_member n ns)
   lookups {s} n no_member left right = not_both (lacks_none m.left s n) (lacks_none m.right s n)
   lookups n (in_both {s = s} {k = k} {d = d} {e = e} {ms = ms} {ns = ns} h rest) left right =
       get_both (Aligned m s n) n k d e ms ns (λ named. both_there (subst (λ x. Same m (want_of_name s x) d e) (sym named) h)) (lookups n rest left.2 right.2)
@@ -110,9 +120,11 @@ module _ (m : Sides) where
       get_both (λ o p. option_and_then as_str o ≡ option_and_then as_str p) (codes "@type") k d e ms ns
       (λ named. text_same m h (ap (λ n. option_map_or is_id_text (want_of_name s n) false) (sym named) ∙ type_plain s)) (type_same rest)
   type_same (left_only {s = s} {k = k} {d = d} {ms = ms} {ns = ns} h rest) =
-      get_one (λ o. option_and_then as_str o ≡ type_text ns) (codes "@type") k d ms (λ named. absurd (type_stays m.left s d (subst (λ x. MayBeAbsent m.left s x d) (sym named) h))) (type_same rest)
+      get_one (λ o. option_and_then as_str o ≡ type_text ns) (codes "@type") k d ms
+      (λ named. absurd (type_stays m.left s d (subst (λ x. MayBeAbsent m.left s x d) (sym named) h))) (type_same rest)
   type_same (right_only {s = s} {k = k} {e = e} {ms = ms} {ns = ns} h rest) =
-      get_one (λ o. type_text ms ≡ option_and_then as_str o) (codes "@type") k e ns (λ named. absurd (type_stays m.right s e (subst (λ x. MayBeAbsent m.right s x e) (sym named) h))) (type_same rest)
+      get_one (λ o. type_text ms ≡ option_and_then as_str o) (codes "@type") k e ns
+      (λ named. absurd (type_stays m.right s e (subst (λ x. MayBeAbsent m.right s x e) (sym named) h))) (type_same rest)
 
   pub class_same : {s : Scope} (r : Role) (ms ns : Members) → SameMembers m s ms ns → class_of_object r (object ms) ≡ class_of_object r (object ns)
   class_same r ms ns h = ap (option_and_then (class_in_role r)) (type_same h)
@@ -125,7 +137,8 @@ module _ (m : Sides) where
   scope_same w ms ns h = refl
 
 -- what is asked of a name in an object of a known class
-pub asked_of_name : (r : Role) (c : Class) (name : List ℕ) → bytes_eq name (codes "@type") ≡ false → want_of_name (scope.Members r (Some c)) name ≡ Some (member_want c name)
+pub asked_of_name : (r : Role) (c : Class) (name : List ℕ) → bytes_eq name (codes "@type") ≡ false → want_of_name (scope.Members r (Some c)) name
+    ≡ Some (member_want c name)
 asked_of_name r c name other = rw other refl
 
 -- ---- from names to members: where what stands under each name is aligned, the members say the same
@@ -139,15 +152,18 @@ module _ (m : Sides) (s : Scope) where
       subst (λ x. Aligned m s n x p) (sym e) (subst (Aligned m s n None) (sym f) (not_both (lacks_none m.left s n) (lacks_none m.right s n)))
 
   -- the rest of the left members, of the right ones, and of both
-  left_rest_at : (n : List ℕ) (d : Data) (o p : Option Data) (c : Ordering) → Aligned m s n (match_ordering c o (Some d) o) p → (c ≡ Equal → Aligned m s n o p) → Aligned m s n o p
+  left_rest_at : (n : List ℕ) (d : Data) (o p : Option Data) (c : Ordering) → Aligned m s n (match_ordering c o (Some d) o) p
+      → (c ≡ Equal → Aligned m s n o p) → Aligned m s n o p
   left_rest_at n d o p Equal h equal = equal refl
   left_rest_at n d o p e h equal = h
 
-  right_rest_at : (n : List ℕ) (e : Data) (o p : Option Data) (c : Ordering) → Aligned m s n o (match_ordering c p (Some e) p) → (c ≡ Equal → Aligned m s n o p) → Aligned m s n o p
+  right_rest_at : (n : List ℕ) (e : Data) (o p : Option Data) (c : Ordering) → Aligned m s n o (match_ordering c p (Some e) p)
+      → (c ≡ Equal → Aligned m s n o p) → Aligned m s n o p
   right_rest_at n e o p Equal h equal = equal refl
   right_rest_at n e o p d h equal = h
 
-  both_rest_at : (n : List ℕ) (d e : Data) (o p : Option Data) (c : Ordering) → Aligned m s n (match_ordering c o (Some d) o) (match_ordering c p (Some e) p) → (c ≡ Equal → Aligned m s n o p) → Aligned m s n o p
+  both_rest_at : (n : List ℕ) (d e : Data) (o p : Option Data) (c : Ordering) → Aligned m s n (match_ordering c o (Some d) o) (match_ordering c p (Some e) p)
+      → (c ≡ Equal → Aligned m s n o p) → Aligned m s n o p
   both_rest_at n d e o p Equal h equal = equal refl
   both_rest_at n d e o p k h equal = h
 
@@ -159,28 +175,33 @@ module _ (m : Sides) (s : Scope) where
       left_rest_at n d (get_member n ms) (get_member n ns) (slice_cmp nat_cmp n k) (h n)
       (λ is. nothing n (get_member n ms) (get_member n ns) (gone n k ms tree.2 tree.0 is) (ap (λ x. get_member x ns) (text_from_equal n k is) ∙ none))
 
-  right_rest : (k : List ℕ) (e : Data) (ms ns : Members) → AreMembers (member k e ns) → get_member k ms ≡ None → AllAligned ms (member k e ns) → AllAligned ms ns
+  right_rest : (k : List ℕ) (e : Data) (ms ns : Members) → AreMembers (member k e ns) → get_member k ms ≡ None
+      → AllAligned ms (member k e ns) → AllAligned ms ns
   right_rest k e ms ns tree none h n =
       right_rest_at n e (get_member n ms) (get_member n ns) (slice_cmp nat_cmp n k) (h n)
       (λ is. nothing n (get_member n ms) (get_member n ns) (ap (λ x. get_member x ms) (text_from_equal n k is) ∙ none) (gone n k ns tree.2 tree.0 is))
 
-  both_rest : (k : List ℕ) (d e : Data) (ms ns : Members) → AreMembers (member k d ms) → AreMembers (member k e ns) → AllAligned (member k d ms) (member k e ns) → AllAligned ms ns
+  both_rest : (k : List ℕ) (d e : Data) (ms ns : Members) → AreMembers (member k d ms) → AreMembers (member k e ns)
+      → AllAligned (member k d ms) (member k e ns) → AllAligned ms ns
   both_rest k d e ms ns left right h n =
       both_rest_at n d e (get_member n ms) (get_member n ns) (slice_cmp nat_cmp n k) (h n)
       (λ is. nothing n (get_member n ms) (get_member n ns) (gone n k ms left.2 left.0 is) (gone n k ns right.2 right.0 is))
 
   -- one member, by what is aligned under its name
-  first_both : (k : List ℕ) (d e : Data) (ms ns : Members) (o p : Option Data) → Some d ≡ o → Some e ≡ p → Aligned m s k o p → SameMembers m s ms ns → SameMembers m s (member k d ms) (member k e ns)
+  first_both : (k : List ℕ) (d e : Data) (ms ns : Members) (o p : Option Data) → Some d ≡ o → Some e ≡ p → Aligned m s k o p → SameMembers m s ms ns
+      → SameMembers m s (member k d ms) (member k e ns)
   first_both k d e ms ns (Some d') (Some e') is its (both_there h) rest =
       let left : d' ≡ d = cc in let right : e' ≡ e = cc in
       in_both (subst (λ x. Same m (want_of_name s k) x e) left (subst (Same m (want_of_name s k) d') right h)) rest
   first_both k d e ms ns o p is its (not_both h g) rest = left_only (h.each d (sym is)) (right_only (g.each e (sym its)) rest)
 
-  first_left : (k : List ℕ) (d : Data) (ms ns : Members) (o p : Option Data) → Some d ≡ o → p ≡ None → Aligned m s k o p → SameMembers m s ms ns → SameMembers m s (member k d ms) ns
+  first_left : (k : List ℕ) (d : Data) (ms ns : Members) (o p : Option Data) → Some d ≡ o → p ≡ None → Aligned m s k o p → SameMembers m s ms ns
+      → SameMembers m s (member k d ms) ns
   first_left k d ms ns (Some d') (Some e') is its (both_there h) rest = cc
   first_left k d ms ns o p is its (not_both h g) rest = left_only (h.each d (sym is)) rest
 
-  first_right : (k : List ℕ) (e : Data) (ms ns : Members) (o p : Option Data) → o ≡ None → Some e ≡ p → Aligned m s k o p → SameMembers m s ms ns → SameMembers m s ms (member k e ns)
+  first_right : (k : List ℕ) (e : Data) (ms ns : Members) (o p : Option Data) → o ≡ None → Some e ≡ p → Aligned m s k o p → SameMembers m s ms ns
+      → SameMembers m s ms (member k e ns)
   first_right k e ms ns (Some d') (Some e') is its (both_there h) rest = cc
   first_right k e ms ns o p is its (not_both h g) rest = right_only (g.each e (sym its)) rest
 
@@ -194,13 +215,15 @@ module _ (m : Sides) (s : Scope) where
       first_right l e no_members ns None (get_member l (member l e ns)) refl (sym (get_member-first l e ns)) (h l)
       (right_alone ns tree.2 (right_rest l e no_members ns tree refl h))
 
-  with_first : (k : List ℕ) (d : Data) (ms ns : Members) → AreMembers (member k d ms) → AreMembers ns → ((ps : Members) → AreMembers ps → AllAligned ms ps → SameMembers m s ms ps)
-      → AllAligned (member k d ms) ns → SameMembers m s (member k d ms) ns
+  with_first : (k : List ℕ) (d : Data) (ms ns : Members) → AreMembers (member k d ms) → AreMembers ns
+      → ((ps : Members) → AreMembers ps → AllAligned ms ps → SameMembers m s ms ps) → AllAligned (member k d ms) ns → SameMembers m s (member k d ms) ns
   with_first k d ms no_members left right rest h =
-      first_left k d ms no_members (get_member k (member k d ms)) None (sym (get_member-first k d ms)) refl (h k) (rest no_members right (left_rest k d ms no_members left refl h))
+      first_left k d ms no_members (get_member k (member k d ms)) None (sym (get_member-first k d ms)) refl (h k)
+      (rest no_members right (left_rest k d ms no_members left refl h))
   with_first k d ms (member l e ns) left right rest h = at (text_cmp k l) refl (λ g. with_first k d ms ns left right.2 rest g)
     where
-      at : (o : Ordering) → text_cmp k l ≡ o → (AllAligned (member k d ms) ns → SameMembers m s (member k d ms) ns) → SameMembers m s (member k d ms) (member l e ns)
+      at : (o : Ordering) → text_cmp k l ≡ o → (AllAligned (member k d ms) ns → SameMembers m s (member k d ms) ns)
+          → SameMembers m s (member k d ms) (member l e ns)
       at Less is more_of =
           let none = below_first k l e ns right is in
           first_left k d ms (member l e ns) (get_member k (member k d ms)) (get_member k (member l e ns)) (sym (get_member-first k d ms)) none (h k)
@@ -210,7 +233,8 @@ module _ (m : Sides) (s : Scope) where
           let right' : AreMembers (member k e ns) = subst (λ x. AreMembers (member x e ns)) same right in
           let h' : AllAligned (member k d ms) (member k e ns) = subst (λ x. AllAligned (member k d ms) (member x e ns)) same h in
           subst (λ x. SameMembers m s (member k d ms) (member x e ns)) (sym same)
-          (first_both k d e ms ns (get_member k (member k d ms)) (get_member k (member k e ns)) (sym (get_member-first k d ms)) (sym (get_member-first k e ns)) (h' k)
+          (first_both k d e ms ns (get_member k (member k d ms)) (get_member k (member k e ns)) (sym (get_member-first k d ms))
+          (sym (get_member-first k e ns)) (h' k)
           (rest ns right'.2 (both_rest k d e ms ns left right' h')))
       at Greater is more_of =
           let less : text_cmp l k ≡ Less = nat_list_cmp_total.antisymm l k ∙ ap ordering_reverse is in
@@ -278,13 +302,15 @@ pub record OfReport (w : Want) (n : List ℕ) : Type 0 where
   pub report : w ≡ Object role.Report
   pub name : is_envelope_name n ≡ true
 
-of_class : (r : Role) (ns : Members) (n : List ℕ) (o : Option Class) → class_of_object r (object ns) ≡ o → is_envelope (scope.Members r o) n ≡ true → (role.Report ≡ r) × (is_envelope_name n ≡ true)
+of_class : (r : Role) (ns : Members) (n : List ℕ) (o : Option Class) → class_of_object r (object ns) ≡ o → is_envelope (scope.Members r o) n ≡ true
+    → (role.Report ≡ r) × (is_envelope_name n ≡ true)
 of_class r ns n (Some class.ElectionReport) among h = (class_role r (object ns) class.ElectionReport among, h)
 of_class r ns n o among h = cc
 
 pub of_report : (w : Want) (ns : Members) (n : List ℕ) → is_envelope (scope_inside w (object ns)) n ≡ true → OfReport w n
 of_report (Object r) ns n h = let x = of_class r ns n (class_of_object r (object ns)) refl h in record { report = ap Object (sym x.0); name = x.1 }
-of_report (Member kind.Label required) ns n h = let e : role.Report ≡ role.Label = (of_class role.Label ns n (class_of_object role.Label (object ns)) refl h).0 in cc
+of_report (Member kind.Label required) ns n h = let e : role.Report ≡ role.Label =
+    (of_class role.Label ns n (class_of_object role.Label (object ns)) refl h).0 in cc
 of_report w ns n h = cc
 
 -- ---- what is steady
@@ -311,14 +337,17 @@ steady_no_array kind.Identity h is = cc
 steady_no_array k h is = absurd (true≢false (sym is ∙ not-true (is_array_kind k) h))
 
 -- a member of which something steady is asked, and which is not in the envelope
-pub stays_one : (t : Data) (s : Scope) (name : List ℕ) (d : Data) → option_map_or is_steady (want_of_name s name) true ≡ true → is_envelope s name ≡ false → MayBeAbsent t s name d → ⊥
-stays_one t s name d steady apart (an_empty_array k required asks is empty) = steady_no_array k (subst (λ o. option_map_or is_steady o true ≡ true) asks steady) is
+pub stays_one : (t : Data) (s : Scope) (name : List ℕ) (d : Data) → option_map_or is_steady (want_of_name s name) true ≡ true → is_envelope s name ≡ false
+    → MayBeAbsent t s name d → ⊥
+stays_one t s name d steady apart (an_empty_array k required asks is empty) =
+    steady_no_array k (subst (λ o. option_map_or is_steady o true ≡ true) asks steady) is
 stays_one t s name d steady apart (of_the_envelope h) = true≢false (sym h ∙ apart)
 stays_one t s name d steady apart (an_unused_id id required asks is unused) = true≢false (sym (subst (λ o. option_map_or is_steady o true ≡ true) asks steady))
 
 plain_stays : (w : Want) (ms : Members) → is_plain w ≡ true → Stays (scope_inside w (object ms))
 plain_stays w ms p t name d =
-    stays_one t (scope_inside w (object ms)) name d (closed_names is_steady is_steady_kind steady_of_kind (λ r. refl) refl refl refl refl refl w ms (plain_closed w p) name)
+    stays_one t (scope_inside w (object ms)) name d (closed_names is_steady is_steady_kind steady_of_kind (λ r. refl) refl refl refl refl refl w ms
+    (plain_closed w p) name)
     (false_from_ne_true (is_envelope (scope_inside w (object ms)) name) (λ e. true≢false (sym p ∙ ap is_plain (of_report w ms name e).report)))
 
 mutual

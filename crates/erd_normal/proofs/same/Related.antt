@@ -1,5 +1,13 @@
 -- Values of two reports that say the same, either way round, and the entries of those that are arrays.
-use Rattle.erd_normal.proofs.Common.{◌≡◌, ℕ, zero, suc, true, List, [], ◌∷◌, Some, sym, refl, ap, ◌∙◌, subst, list_any, Data, Items, no_items, item, get_item, is_same_exact, IsTree, is_same_json, list_of_items, find-any, two_exchanged, json_set, ⊎_elim, IsPermutation, IsPermutation-cons, IsPermutation-refl, IsPermutation-sym, IsPermutation-trans, along_permutation, In, any_at, inl, inr, reordered-In, Option, Members, items_of, list_of_items-items_of, entry_want, Scope, Want, SaysBack, Sides, not_asked, a_null, a_flag, a_number, a_text, an_id, a_list, a_set, an_object, no_entry, one_entry, no_member, in_both, left_only, right_only, Same, SameEntries, SameMembers, is_table_set, false, array, Bool, None, null, boolean, number, string, object, no_members, member, role, scope_inside, want_of_name, Object, is_id_text, SaysItself, NameOneThing, option_map_or, entries_of, is_envelope, an_empty_array, of_the_envelope, an_unused_id, MayBeAbsent, list_of_items-place, Within-step, within-tree, Within, Asked, asked, is_compared_set, is_repeated, At, Name, ◌&&◌, get_member}
+use Rattle.erd_normal.proofs.Common.{◌≡◌, ℕ, zero, suc, true, List, [], ◌∷◌, Some, sym, refl, ap, ◌∙◌, subst, list_any, Data, Items, no_items, item, get_item}
+use Rattle.erd_normal.proofs.Common.{is_same_exact, IsTree, is_same_json, list_of_items, find-any, two_exchanged, json_set, ⊎_elim, IsPermutation}
+use Rattle.erd_normal.proofs.Common.{IsPermutation-cons, IsPermutation-refl, IsPermutation-sym, IsPermutation-trans, along_permutation, In, any_at, inl, inr}
+use Rattle.erd_normal.proofs.Common.{reordered-In, Option, Members, items_of, list_of_items-items_of, entry_want, Scope, Want, SaysBack, Sides, not_asked}
+use Rattle.erd_normal.proofs.Common.{a_null, a_flag, a_number, a_text, an_id, a_list, a_set, an_object, no_entry, one_entry, no_member, in_both, left_only}
+use Rattle.erd_normal.proofs.Common.{right_only, Same, SameEntries, SameMembers, is_table_set, false, array, Bool, None, null, boolean, number, string, object}
+use Rattle.erd_normal.proofs.Common.{no_members, member, role, scope_inside, want_of_name, Object, is_id_text, SaysItself, NameOneThing, option_map_or}
+use Rattle.erd_normal.proofs.Common.{entries_of, is_envelope, an_empty_array, of_the_envelope, an_unused_id, MayBeAbsent, list_of_items-place, Within-step}
+use Rattle.erd_normal.proofs.Common.{within-tree, Within, Asked, asked, is_compared_set, is_repeated, At, Name, ◌&&◌, get_member}
 use Rattle.erd_normal.proofs.lists.Matched.{Paired, more, Matched, matched_none, matched_equal, none}
 use Rattle.erd_normal.proofs.lists.Lists.{items_again}
 use Rattle.erd_normal.proofs.same.Lookups.{scope_same, MayLack}
@@ -14,16 +22,19 @@ pub record Follows {A B : Type 0} (R : A → B → Type 0) (zs : List A) (ys : L
 
 pub follows : {A B : Type 0} {R : A → B → Type 0} {xs zs : List A} {ys : List B} → IsPermutation xs zs → Paired R xs ys → Follows R zs ys
 follows {A} {B} {R} {ys = ys} h p = along_permutation Leads (λ xs vs q. record { new = vs; paired = q; reordered = IsPermutation-refl vs }) kept exchanged
-    (λ us vs ws k one two ts q. let f = one ts q in let g = two f.new f.paired in record { new = g.new; paired = g.paired; reordered = IsPermutation-trans _ _ _ f.reordered g.reordered }) h ys p
+    (λ us vs ws k one two ts q. let f = one ts q in let g = two f.new f.paired in
+    record { new = g.new; paired = g.paired; reordered = IsPermutation-trans _ _ _ f.reordered g.reordered }) h ys p
   where
     Leads : List A → List A → Type 0
     Leads us ws = (vs : List B) → Paired R us vs → Follows R ws vs
 
     kept : (x : A) (us ws : List A) → IsPermutation us ws → Leads us ws → Leads (x ∷ us) (x ∷ ws)
-    kept x us ws k leads _ (more {y = y} {ys = vs} r rest) = let f = leads vs rest in record { new = y ∷ f.new; paired = more r f.paired; reordered = IsPermutation-cons _ _ _ f.reordered }
+    kept x us ws k leads _ (more {y = y} {ys = vs} r rest) = let f = leads vs rest in
+        record { new = y ∷ f.new; paired = more r f.paired; reordered = IsPermutation-cons _ _ _ f.reordered }
 
     exchanged : (x x' : A) (us : List A) → Leads (x ∷ (x' ∷ us)) (x' ∷ (x ∷ us))
-    exchanged x x' us _ (more {y = y} r (more {y = z} {ys = vs} q rest)) = record { new = z ∷ (y ∷ vs); paired = more q (more r rest); reordered = two_exchanged }
+    exchanged x x' us _ (more {y = y} r (more {y = z} {ys = vs} q rest)) =
+        record { new = z ∷ (y ∷ vs); paired = more q (more r rest); reordered = two_exchanged }
 
 -- what is found in an array is one of its entries
 pub entry_has : (ds : Items) (i : ℕ) (d : Data) → get_item i ds ≡ Some d → In d (list_of_items ds)
@@ -54,7 +65,8 @@ pub record Without {A : Type 0} (ys : List A) (y : A) : Type 0 where
 pub without : {A : Type 0} (ys : List A) (y : A) → In y ys → Without ys y
 without [] y h = absurd h
 without (x ∷ xs) y (inl e) = subst (Without (x ∷ xs)) e (record { rest = xs; same = IsPermutation-refl _ })
-without (x ∷ xs) y (inr h) = let w = without xs y h in record { rest = x ∷ w.rest; same = IsPermutation-trans _ _ _ two_exchanged (IsPermutation-cons _ _ _ w.same) }
+without (x ∷ xs) y (inr h) = let w = without xs y h in
+    record { rest = x ∷ w.rest; same = IsPermutation-trans _ _ _ two_exchanged (IsPermutation-cons _ _ _ w.same) }
 
 module _ {A B K : Type 0} (key : A → K) (key' : B → K) where
   abbrev pub Tied : A → B → Type 0
@@ -71,13 +83,16 @@ module _ {A B K : Type 0} (key : A → K) (key' : B → K) where
       let t = to x (inl refl) in
       let w = without ys t.0 t.1 in
       let apart : ApartBy key' (t.0 ∷ w.rest) = apart-reordered key' (IsPermutation-sym _ _ w.same) right in
-      let m = matched_by_keys xs w.rest left.1 apart.1 (λ x' i. onward t.0 w.rest t.2 x' i (to x' (inr i)) (IsPermutation-sym _ _ w.same)) (λ y' i. backward t.0 w.rest t.2 apart.0 y' i (from y' (reordered-In y' w.same (inr i)))) in
+      let m = matched_by_keys xs w.rest left.1 apart.1 (λ x' i. onward t.0 w.rest t.2 x' i (to x' (inr i)) (IsPermutation-sym _ _ w.same))
+      (λ y' i. backward t.0 w.rest t.2 apart.0 y' i (from y' (reordered-In y' w.same (inr i)))) in
       record { middle = t.0 ∷ m.middle; paired = more t.2 m.paired; reordered = IsPermutation-trans _ _ _ (IsPermutation-cons _ _ _ m.reordered) w.same }
     where
-      onward : (y : B) (rest : List B) → Tied x y → (x' : A) → In x' xs → (y' : B) × In y' ys × Tied x' y' → IsPermutation ys (y ∷ rest) → (y' : B) × In y' rest × Tied x' y'
+      onward : (y : B) (rest : List B) → Tied x y → (x' : A) → In x' xs → (y' : B) × In y' ys × Tied x' y' → IsPermutation ys (y ∷ rest) → (y' : B)
+          × In y' rest × Tied x' y'
       onward y rest e x' i t same = ⊎_elim (λ is. absurd (left.0 x' i (e ∙ ap key' is ∙ sym t.2))) (λ j. (t.0, j, t.2)) (reordered-In t.0 same t.1)
 
-      backward : (y : B) (rest : List B) → Tied x y → ((z : B) → In z rest → key' y ≡ key' z → ⊥) → (y' : B) → In y' rest → (x' : A) × In x' (x ∷ xs) × Tied x' y' → (x' : A) × In x' xs × Tied x' y'
+      backward : (y : B) (rest : List B) → Tied x y → ((z : B) → In z rest → key' y ≡ key' z → ⊥) → (y' : B) → In y' rest → (x' : A) × In x' (x ∷ xs)
+          × Tied x' y' → (x' : A) × In x' xs × Tied x' y'
       backward y rest e apart y' i t = ⊎_elim (λ is. absurd (apart y' i (sym e ∙ ap key is ∙ t.2))) (λ j. (t.0, j, t.2)) (t.1)
 
 -- ---- lists of different JSON values that are one set are the same but for their order; and so are references that name one
@@ -96,7 +111,8 @@ in_other ds es left right same x i =
     let f = find-any (is_same_json x) es h in
     (f.0, f.3, is_same_exact x f.0 (left x i).0 (right f.0 f.3).0 f.2)
 
-pub json_sets_reordered : (ds es : List Data) → AreSound ds → AreSound es → ApartBy itself ds → ApartBy itself es → json_set ds ≡ json_set es → IsPermutation ds es
+pub json_sets_reordered : (ds es : List Data) → AreSound ds → AreSound es → ApartBy itself ds → ApartBy itself es → json_set ds
+    ≡ json_set es → IsPermutation ds es
 json_sets_reordered ds es left right apart apart' same =
     matched_equal (λ x y h. h)
     (matched_by_keys itself itself ds es apart apart' (in_other ds es left right same)
@@ -127,7 +143,8 @@ pub record SetMoved (m : Sides) (w : Option Want) (es ds : Items) : Type 0 where
   pub permuted : IsPermutation (list_of_items es) (list_of_items moved)
   pub entries : SameEntries m w moved ds
 
-pub set_swapped : (m : Sides) (w : Option Want) (ds fs es : Items) → IsPermutation (list_of_items ds) (list_of_items fs) → SameEntries m w es fs → SetMoved m w es ds
+pub set_swapped : (m : Sides) (w : Option Want) (ds fs es : Items) → IsPermutation (list_of_items ds) (list_of_items fs)
+    → SameEntries m w es fs → SetMoved m w es ds
 set_swapped m w ds fs es p h =
     let f = follows (IsPermutation-sym (list_of_items ds) (list_of_items fs) p) (paired_flip (entries_paired m h)) in
     record {
@@ -138,15 +155,19 @@ set_swapped m w ds fs es p h =
 
 -- arrays whose entries say the same say the same
 module _ (m : Sides) where
-  pub set_says : (w : Want) (ds es : Items) → is_table_set w ≡ true → Matched (Same m (entry_want w)) (list_of_items ds) (list_of_items es) → Same m (Some w) (array ds) (array es)
+  pub set_says : (w : Want) (ds es : Items) → is_table_set w ≡ true → Matched (Same m (entry_want w)) (list_of_items ds) (list_of_items es)
+      → Same m (Some w) (array ds) (array es)
   set_says w ds es is h =
       let f = follows h.reordered (paired_flip h.paired) in
       a_set (items_of f.new) is (subst (IsPermutation (list_of_items ds)) (sym (list_of_items-items_of f.new)) f.reordered)
       (subst (SameEntries m (entry_want w) (items_of f.new)) (items_again es) (paired_entries m (entry_want w) (paired_flip f.paired)))
 
-  pub list_says : (w : Want) (ds es : Items) → is_table_set w ≡ false → Paired (Same m (entry_want w)) (list_of_items ds) (list_of_items es) → Same m (Some w) (array ds) (array es)
+  pub list_says : (w : Want) (ds es : Items) → is_table_set w ≡ false → Paired (Same m (entry_want w)) (list_of_items ds) (list_of_items es)
+      → Same m (Some w) (array ds) (array es)
   list_says w ds es is h =
-      a_list is (subst (λ x. SameEntries m (entry_want w) x es) (items_again ds) (subst (SameEntries m (entry_want w) (items_of (list_of_items ds))) (items_again es) (paired_entries m (entry_want w) h)))
+      a_list is
+      (subst (λ x. SameEntries m (entry_want w) x es) (items_again ds)
+      (subst (SameEntries m (entry_want w) (items_of (list_of_items ds))) (items_again es) (paired_entries m (entry_want w) h)))
 
 -- ---- the other way round
 
@@ -195,8 +216,8 @@ mutual
   pub data Alike (m : Sides) : Option Want → Data → Data → Type 0 where
     alike_leaf : {o : Option Want} {d e : Data} → is_leaf o d ≡ true → Same m o d e → Alike m o d e
     alike_list : {w : Want} {ds es : Items} → is_table_set w ≡ false → AlikeEntries m (entry_want w) ds es → Alike m (Some w) (array ds) (array es)
-    alike_set : {w : Want} {ds es : Items} (fs : Items) → is_table_set w ≡ true → IsPermutation (list_of_items ds) (list_of_items fs) → AlikeEntries m (entry_want w) fs es
-        → Alike m (Some w) (array ds) (array es)
+    alike_set : {w : Want} {ds es : Items} (fs : Items) → is_table_set w ≡ true → IsPermutation (list_of_items ds) (list_of_items fs)
+        → AlikeEntries m (entry_want w) fs es → Alike m (Some w) (array ds) (array es)
     alike_object : {w : Want} {ms ns : Members} → AlikeMembers m (scope_inside w (object ms)) ms ns → Alike m (Some w) (object ms) (object ns)
 
   -- the entries of an array, one by one
@@ -207,7 +228,8 @@ mutual
   -- the members of an object, one by one
   pub data AlikeMembers (m : Sides) : Scope → Members → Members → Type 0 where
     alike_nothing : {s : Scope} → AlikeMembers m s no_members no_members
-    alike_under : {s : Scope} {k : List ℕ} {d e : Data} {ms ns : Members} → Alike m (want_of_name s k) d e → AlikeMembers m s ms ns → AlikeMembers m s (member k d ms) (member k e ns)
+    alike_under : {s : Scope} {k : List ℕ} {d e : Data} {ms ns : Members} → Alike m (want_of_name s k) d e → AlikeMembers m s ms ns
+        → AlikeMembers m s (member k d ms) (member k e ns)
 
 mutual
   pub alike_same : {m : Sides} {o : Option Want} {d e : Data} → Alike m o d e → Same m o d e
@@ -225,12 +247,14 @@ mutual
   members_same (alike_under h rest) = in_both (alike_same h) (members_same rest)
 
 -- arrays whose entries are alike in their order
-pub alike_array : (m : Sides) (w : Want) (ds es : Items) (b : Bool) → is_table_set w ≡ b → AlikeEntries m (entry_want w) ds es → Alike m (Some w) (array ds) (array es)
+pub alike_array : (m : Sides) (w : Want) (ds es : Items) (b : Bool) → is_table_set w ≡ b → AlikeEntries m (entry_want w) ds es
+    → Alike m (Some w) (array ds) (array es)
 alike_array m w ds es true is h = alike_set ds is (IsPermutation-refl (list_of_items ds)) h
 alike_array m w ds es false is h = alike_list is h
 
 -- what is asked is alike to itself, with all that is inside it, where each text of an `@id` stands for itself
-module _ (m : Sides) (H : Option Want → Type 0) (texts : (w : Want) (s : List ℕ) → H (Some w) → is_id_text w ≡ true → NameOneThing m s s) (entries : (w : Want) → H (Some w) → H (entry_want w))
+module _ (m : Sides) (H : Option Want → Type 0) (texts : (w : Want) (s : List ℕ) → H (Some w) → is_id_text w ≡ true → NameOneThing m s s)
+    (entries : (w : Want) → H (Some w) → H (entry_want w))
     (names : (w : Want) (ms : Members) → H (Some w) → (n : List ℕ) → H (want_of_name (scope_inside w (object ms)) n)) where
   text_self : (w : Want) (s : List ℕ) (b : Bool) → is_id_text w ≡ b → H (Some w) → Same m (Some w) (string s) (string s)
   text_self w s true is h = an_id is (texts w s h is)
@@ -258,7 +282,8 @@ pub says_itself : SaysItself
 says_itself t = record {
   there = as_it_is;
   back = as_it_is;
-  same = alike_same (alike_self (record { left = t; right = t; there = as_it_is; back = as_it_is }) (λ o. Unit {0}) (λ w s h is. (refl, refl)) (λ w h. tt) (λ w ms h n. tt) (Some (Object role.Report)) t tt);
+  same = alike_same (alike_self (record { left = t; right = t; there = as_it_is; back = as_it_is }) (λ o. Unit {0}) (λ w s h is. (refl, refl)) (λ w h. tt)
+      (λ w ms h n. tt) (Some (Object role.Report)) t tt);
 }
 
 -- ---- values of a report
@@ -277,7 +302,8 @@ entry_stands t w v (array ds) asks st x h =
     record { repeated = is_compared_set w && is_repeated ds j.0 x; inside = Within-step t a b (At j.0) st.inside (rw (asks, j.1) refl) }
 entry_stands t w v e asks st x h = elim h [ ]
 
-pub member_stands : (t : Data) (w : Want) (ms : Members) → Stands t w (object ms) → (k : List ℕ) (v : Want) (d : Data) → want_of_name (scope_inside w (object ms)) k ≡ Some v → get_member k ms ≡ Some d → Stands t v d
+pub member_stands : (t : Data) (w : Want) (ms : Members) → Stands t w (object ms) → (k : List ℕ) (v : Want) (d : Data)
+    → want_of_name (scope_inside w (object ms)) k ≡ Some v → get_member k ms ≡ Some d → Stands t v d
 member_stands t w ms st k v d asks found =
     let a : Asked = record { want = w; value = object ms; repeated = st.repeated } in
     record { repeated = false; inside = Within-step t a (asked v d) (Name k) st.inside (rw (asks, found) refl) }
@@ -287,11 +313,13 @@ stands_tree t w d tree st = within-tree t (record { want = w; value = d; repeate
 
 -- ---- lists
 
-pub paired_within_both : {A B : Type 0} {R : A → B → Type 0} (S : A → B → Type 0) {xs : List A} {ys : List B} → ((x : A) (y : B) → In x xs → In y ys → R x y → S x y) → Paired R xs ys → Paired S xs ys
+pub paired_within_both : {A B : Type 0} {R : A → B → Type 0} (S : A → B → Type 0) {xs : List A} {ys : List B}
+    → ((x : A) (y : B) → In x xs → In y ys → R x y → S x y) → Paired R xs ys → Paired S xs ys
 paired_within_both S h none = none
 paired_within_both S h (more {x = x} {y = y} r rest) = more (h x y (inl refl) (inl refl) r) (paired_within_both S (λ a b i j. h a b (inr i) (inr j)) rest)
 
-pub matched_within_both : {A B : Type 0} {R : A → B → Type 0} (S : A → B → Type 0) {xs : List A} {ys : List B} → ((x : A) (y : B) → In x xs → In y ys → R x y → S x y) → Matched R xs ys → Matched S xs ys
+pub matched_within_both : {A B : Type 0} {R : A → B → Type 0} (S : A → B → Type 0) {xs : List A} {ys : List B}
+    → ((x : A) (y : B) → In x xs → In y ys → R x y → S x y) → Matched R xs ys → Matched S xs ys
 matched_within_both S h m = record {
   middle = m.middle;
   paired = paired_within_both S (λ x y i j. h x y i (reordered-In y m.reordered j)) m.paired;
@@ -305,7 +333,8 @@ matched_left h p = let f = follows (IsPermutation-sym _ _ h) p in record { middl
 
 -- the entries of values that say the same are matched
 pub entries_matched : (m : Sides) (w : Want) {d e : Data} → Same m (Some w) d e → Matched (Same m (entry_want w)) (entries_of d) (entries_of e)
-entries_matched m w (a_list {es = es} is h) = record { middle = list_of_items es; paired = entries_paired m h; reordered = IsPermutation-refl (list_of_items es) }
+entries_matched m w (a_list {es = es} is h) =
+    record { middle = list_of_items es; paired = entries_paired m h; reordered = IsPermutation-refl (list_of_items es) }
 entries_matched m w (a_set {ds = ds} fs is p h) = matched_left p (entries_paired m h)
 entries_matched m w h = matched_none _
 
@@ -315,7 +344,8 @@ absent_empty t s name d other (an_empty_array k required asks is empty) = ap ent
 absent_empty t s name d other (of_the_envelope h) = let e : true ≡ false = sym h ∙ other in cc
 absent_empty t s name d other (an_unused_id id required asks is unused) = ap entries_of is
 
-pub lacking_empty : (t : Data) (s : Scope) (name : List ℕ) (o : Option Data) → is_envelope s name ≡ false → MayLack t s name o → option_map_or entries_of o [] ≡ []
+pub lacking_empty : (t : Data) (s : Scope) (name : List ℕ) (o : Option Data) → is_envelope s name ≡ false → MayLack t s name o
+    → option_map_or entries_of o [] ≡ []
 lacking_empty t s name None other h = refl
 lacking_empty t s name (Some d) other h = absent_empty t s name d other (h.each d refl)
 

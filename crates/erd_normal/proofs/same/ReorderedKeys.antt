@@ -1,5 +1,7 @@
 -- The key that identifiers give does not depend on their order.
-use Rattle.erd_normal.proofs.Common.{◌≡◌, Bool, true, false, List, map, Some, sym, refl, ap, ◌∙◌, Data, None, Option, Ordering, Equal, Preference, [], ◌∷◌, if◌then◌else◌, true≢false, is_lt, Less, Greater, CmpEqualImpliesEq, IsTotalOrder, ordering_reverse, less, triple_of, key_of_identifiers, whole-reordered, Key, fun_ext, IsPermutation}
+use Rattle.erd_normal.proofs.Common.{◌≡◌, Bool, true, false, List, map, Some, sym, refl, ap, ◌∙◌, Data, None, Option, Ordering, Equal, Preference, [], ◌∷◌}
+use Rattle.erd_normal.proofs.Common.{if◌then◌else◌, true≢false, is_lt, Less, Greater, CmpEqualImpliesEq, IsTotalOrder, ordering_reverse, less, triple_of}
+use Rattle.erd_normal.proofs.Common.{key_of_identifiers, whole-reordered, Key, fun_ext, IsPermutation}
 use Rattle.erd_meaning.specs.code.ChosenKeys.{choice_cmp, choice_of, choice_of_two}
 use Rattle.erd_meaning.proofs.orders.ChoiceOrder.{choice_cmp_exact, choice_cmp_total, key_is_choice}
 
@@ -61,7 +63,8 @@ module _ (π : Preference) where
 
   chosen-reordered : {ds es : List Data} → IsPermutation ds es → chosen ds ≡ chosen es
   chosen-reordered h =
-      whole-reordered chosen (λ d f o. f (with_one o (triple_of d))) (λ d ds. refl) (λ d e f. fun_ext (λ o. ap f (with_one_exchanges o (triple_of d) (triple_of e)))) h
+      whole-reordered chosen (λ d f o. f (with_one o (triple_of d))) (λ d ds. refl)
+      (λ d e f. fun_ext (λ o. ap f (with_one_exchanges o (triple_of d) (triple_of e)))) h
 
   pub key_of_identifiers-reordered : (ds es : List Data) → IsPermutation ds es → key_of_identifiers π ds ≡ key_of_identifiers π es
   key_of_identifiers-reordered ds es h = key_is_chosen ds ∙ ap (λ f. f None) (chosen-reordered h) ∙ sym (key_is_chosen es)

@@ -1,5 +1,10 @@
 -- The text that is written for a report is the text of its canonical form.
-use Rattle.erd_normal.proofs.Common.{◌≡◌, ℕ, suc, ◌≤◌, List, [], Some, Option, option_map, option_and_then, Less, sym, refl, ap, ◌∙◌, subst, ap₂, append-nil, arith, nat_list_cmp_total, AllByRecursion, ordering_reverse, Data, array, object, Items, no_items, item, Members, no_members, member, put, text_cmp, IsTree, IsAccepted, Preference, IsBounded, number, depth, members_depth, of_json, of_items, of_members, read, max_depth, AreTrees, AreMembers, IsShallow, names, max, IsUtf8, ⊤, Token, items_depth, outline, items_outline, members_outline, before_all, HasFittingNumbers, ItemsHaveFittingNumbers, MembersHaveFittingNumbers, value_tokens}
+use Rattle.erd_normal.proofs.Common.{◌≡◌, ℕ, suc, ◌≤◌, List, [], Some, Option, option_map, option_and_then, Less, sym, refl, ap, ◌∙◌, subst, ap₂, append-nil}
+use Rattle.erd_normal.proofs.Common.{arith, nat_list_cmp_total, AllByRecursion, ordering_reverse, Data, array, object, Items, no_items, item, Members}
+use Rattle.erd_normal.proofs.Common.{no_members, member, put, text_cmp, IsTree, IsAccepted, Preference, IsBounded, number, depth, members_depth, of_json}
+use Rattle.erd_normal.proofs.Common.{of_items, of_members, read, max_depth, AreTrees, AreMembers, IsShallow, names, max, IsUtf8, ⊤, Token, items_depth, outline}
+use Rattle.erd_normal.proofs.Common.{items_outline, members_outline, before_all, HasFittingNumbers, ItemsHaveFittingNumbers, MembersHaveFittingNumbers}
+use Rattle.erd_normal.proofs.Common.{value_tokens}
 use Rattle.serde_json.proofs.Texts.{print-outline}
 use Rattle.json.specs.Lex.{tokens}
 use Rattle.json.proofs.Printed.Trees.{value-json_tokens}
@@ -49,7 +54,8 @@ below_one : (ms : Members) (k : List ℕ) (d : Data) (l : List ℕ) → IsBelow 
 below_one no_members k d l h e = (e, tt)
 below_one (member j v ms) k d l h e = (h.0, below_one ms k d l h.1 e)
 
-are_below_one : (ms : Members) (k : List ℕ) (d : Data) (ns : Members) → AreBelow ms ns → AllByRecursion (λ l. text_cmp k l ≡ Less) (names ns) → AreBelow (joined ms (member k d no_members)) ns
+are_below_one : (ms : Members) (k : List ℕ) (d : Data) (ns : Members) → AreBelow ms ns → AllByRecursion (λ l. text_cmp k l ≡ Less) (names ns)
+    → AreBelow (joined ms (member k d no_members)) ns
 are_below_one ms k d no_members h e = tt
 are_below_one ms k d (member l v ns) h e = (below_one ms k d l h.0 e.0, are_below_one ms k d ns h.1 e.1)
 
@@ -70,14 +76,14 @@ mutual
   items_read no_items trees fit = refl
   items_read (item d ds) trees fit = rw (json_read d trees.0 fit.0, items_read ds trees.1 fit.1) refl
 
-  members_read : (ms found : Members) → AreBelow found ms → AreMembers ms → MembersHaveFittingNumbers ms → of_members (members_outline ms) found ≡ Some (joined found ms)
+  members_read : (ms found : Members) → AreBelow found ms → AreMembers ms → MembersHaveFittingNumbers ms → of_members (members_outline ms) found
+      ≡ Some (joined found ms)
   members_read no_members found low rise fit = ap Some (sym (joined_none found))
   members_read (member k d ms) found low rise fit =
       let next : Members = joined found (member k d no_members) in
       let above : AllByRecursion (λ l. text_cmp k l ≡ Less) (names ms) = before_all k ms rise.0 rise.2 in
       ap (option_and_then (λ d. of_members (members_outline ms) (put k d found))) (json_read d rise.1 fit.0)
-      ∙ (ap (of_members (members_outline ms)) (put_above k d found low.0)
-      ∙ (members_read ms next (are_below_one found k d ms low.1 above) rise.2 fit.1
+      ∙ (ap (of_members (members_outline ms)) (put_above k d found low.0) ∙ (members_read ms next (are_below_one found k d ms low.1 above) rise.2 fit.1
       ∙ ap Some (joined_one found k d ms)))
 
 mutual
@@ -107,7 +113,8 @@ form_read d text rise fit same shallow =
 -- ---- the text that is written for a report is the text of its canonical form
 
 module _ (π : Preference) (t : Data) (accepted : IsAccepted π t) (tree : IsTree t) (bounded : IsBounded t) (fits : HasFittingNumbers t) where
-  pub text_of_form : (written : List Token) (text : List ℕ) → written ≡ value_tokens (view_of (style_of π t) t) → text ≡ print written → tokens (print written) ≡ written → IsUtf8 text → IsCanonicalText π t text
+  pub text_of_form : (written : List Token) (text : List ℕ) → written ≡ value_tokens (view_of (style_of π t) t) → text ≡ print written → tokens (print written)
+      ≡ written → IsUtf8 text → IsCanonicalText π t text
   text_of_form written text are printed back utf8 =
       let u = view_of (style_of π t) t in
       record {

@@ -1,5 +1,11 @@
 -- The canonical style suits an accepted report: so the report that is written in it says what the report says.
-use Rattle.erd_normal.proofs.Common.{asked, scope, ObjectAt, ObjectIn, object_in, Within, is_envelope, id_of_key, has_keys, key_of, ◌≡◌, ℕ, Bool, true, false, cond, ◌||◌, ◌&&◌, inl, inr, List, [], map, is_some, Some, None, codes, Option, option_map, option_map_or, bytes_eq, sym, refl, ap, ◌∙◌, subst, and_parts, AllByRecursion, Data, null, string, array, object, Items, Members, get_member, get_item, get, role_of_class, family_of_class, kind_of_member, is_required, Class, class, Family, family, Role, role, MemberKind, kind, IsTree, In, text_exact, class_role, ShapeFault, NoneOf, entries_of, class_of_object, scope_inside, want_of_kind, is_report_class, member_want, want_of_name, entry_want, Asked, asked_at, Within-root, Want, Carried, ClassText, Member, Object, Status, Preference, Placed, objects, family_of_role, skeleton_of_shape, Skeleton, election_entries, entries_at}
+use Rattle.erd_normal.proofs.Common.{asked, scope, ObjectAt, ObjectIn, object_in, Within, is_envelope, id_of_key, has_keys, key_of, ◌≡◌, ℕ, Bool, true, false}
+use Rattle.erd_normal.proofs.Common.{cond, ◌||◌, ◌&&◌, inl, inr, List, [], map, is_some, Some, None, codes, Option, option_map, option_map_or, bytes_eq, sym}
+use Rattle.erd_normal.proofs.Common.{refl, ap, ◌∙◌, subst, and_parts, AllByRecursion, Data, null, string, array, object, Items, Members, get_member, get_item}
+use Rattle.erd_normal.proofs.Common.{get, role_of_class, family_of_class, kind_of_member, is_required, Class, class, Family, family, Role, role, MemberKind}
+use Rattle.erd_normal.proofs.Common.{kind, IsTree, In, text_exact, class_role, ShapeFault, NoneOf, entries_of, class_of_object, scope_inside, want_of_kind}
+use Rattle.erd_normal.proofs.Common.{is_report_class, member_want, want_of_name, entry_want, Asked, asked_at, Within-root, Want, Carried, ClassText, Member}
+use Rattle.erd_normal.proofs.Common.{Object, Status, Preference, Placed, objects, family_of_role, skeleton_of_shape, Skeleton, election_entries, entries_at}
 use Rattle.erd_meaning.specs.code.Spots.{member_name}
 use Rattle.erd_normal.proofs.inside.Homes.{holds, home, is_home, is_report_role, report_part, election_part}
 use Rattle.erd_normal.proofs.lists.Lists.{IsPart}
@@ -15,7 +21,8 @@ use Rattle.erd_normal.specs.code.View.{whole, style_of, puts_of, id_given, as_me
 
 abbrev pub OfContest : Data → Data → Want → Data → Type 0
 OfContest t o (Object (role.OfFamily family.Selection)) d = (c : Placed) × In c (objects family.Contest t) × (o ≡ c.value) × In d (selection_values c)
-OfContest t o (Member (kind.Keyed family.Selection) r) d = (c : Placed) × In c (objects family.Contest t) × (o ≡ c.value) × (get (codes "ContestSelection") c.value ≡ Some d)
+OfContest t o (Member (kind.Keyed family.Selection) r) d = (c : Placed) × In c (objects family.Contest t) × (o ≡ c.value)
+    × (get (codes "ContestSelection") c.value ≡ Some d)
 OfContest t o (Member (kind.Keyed f) r) d = IsPart (entries_of d) (map (λ (p : Placed). p.value) (objects f t))
 OfContest t o (Member kind.Elections r) d = entries_of d ≡ entries_at (codes "Election") t
 OfContest t o w d = Unit {0}
@@ -58,20 +65,23 @@ module _ (t : Data) (clean : NoneOf (ShapeFault t)) (ms : Members) (x : Data) wh
   abbrev s : Skeleton t
   s = skeleton_of_shape t clean
 
-  keyed_part : (r : Role) (f : Family) → has_keys f ≡ true → holds r f ≡ true → IsPartOf t (Object r) (object ms) → get_member (member_name f) ms ≡ Some x → IsPart (entries_of x) (map (λ (p : Placed). p.value) (objects f t))
+  keyed_part : (r : Role) (f : Family) → has_keys f ≡ true → holds r f ≡ true → IsPartOf t (Object r) (object ms) → get_member (member_name f) ms ≡ Some x
+      → IsPart (entries_of x) (map (λ (p : Placed). p.value) (objects f t))
   keyed_part role.Report f keyed h part found =
       let whole : object ms ≡ object s.ms = part ∙ s.is_object in let same : ms ≡ s.ms = cc in
       report_part t s f x (report_keyed f h) (ap (get_member (member_name f)) (sym same) ∙ found)
-  keyed_part role.Election f keyed h part found = election_part t s (object ms) ms (subst (λ xs. In (object ms) xs) (election_entries t s) part) refl f x (election_keyed f h) found
+  keyed_part role.Election f keyed h part found = election_part t s (object ms) ms (subst (λ xs. In (object ms) xs) (election_entries t s) part) refl f x
+      (election_keyed f h) found
   keyed_part (role.OfFamily family.Contest) family.Selection keyed h part found = cc
   keyed_part r f keyed h part found = cc
 
-  top_elections : (r : Role) → is_report_role r ≡ true → IsPartOf t (Object r) (object ms) → get_member (codes "Election") ms ≡ Some x → entries_of x ≡ entries_at (codes "Election") t
+  top_elections : (r : Role) → is_report_role r ≡ true → IsPartOf t (Object r) (object ms) → get_member (codes "Election") ms ≡ Some x → entries_of x
+      ≡ entries_at (codes "Election") t
   top_elections role.Report h part found = ap (λ o. option_map_or entries_of o []) (sym found ∙ ap (get (codes "Election")) part)
   top_elections r h part found = cc
 
-  kind_contest : (r : Role) (c : Class) (n : List ℕ) (k : MemberKind) (required : Bool) → role_of_class c ≡ r → is_home c n k ≡ true → IsPartOf t (Object r) (object ms) → get_member n ms ≡ Some x
-      → OfContest t (object ms) (want_of_kind k required) x
+  kind_contest : (r : Role) (c : Class) (n : List ℕ) (k : MemberKind) (required : Bool) → role_of_class c ≡ r → is_home c n k ≡ true
+      → IsPartOf t (Object r) (object ms) → get_member n ms ≡ Some x → OfContest t (object ms) (want_of_kind k required) x
   kind_contest r c n (kind.Keyed family.Selection) required its at part found =
       let b = and_parts (holds (role_of_class c) family.Selection) (bytes_eq n (codes "ContestSelection")) at in
       let contest : r ≡ role.OfFamily family.Contest = contest_home r (subst (λ q. holds q family.Selection ≡ true) its b.0) in
@@ -85,17 +95,20 @@ module _ (t : Data) (clean : NoneOf (ShapeFault t)) (ms : Members) (x : Data) wh
       top_elections r (subst (λ q. is_report_role q ≡ true) its b.0) part (subst (λ z. get_member z ms ≡ Some x) (text_exact n (codes "Election") b.1) found)
   kind_contest r c n k required its at part found = tt
 
-  member_contest : (r : Role) (c : Class) (n : List ℕ) → role_of_class c ≡ r → IsPartOf t (Object r) (object ms) → get_member n ms ≡ Some x → OfContest t (object ms) (member_want c n) x
+  member_contest : (r : Role) (c : Class) (n : List ℕ) → role_of_class c ≡ r → IsPartOf t (Object r) (object ms) → get_member n ms ≡ Some x
+      → OfContest t (object ms) (member_want c n) x
   member_contest r c n its part found = at (is_report_class c && bytes_eq n (codes "Status"))
     where
       at : (b : Bool) → OfContest t (object ms) (cond b Status (want_of_kind (kind_of_member c n) (is_required c n))) x
       at true = tt
       at false = kind_contest r c n (kind_of_member c n) (is_required c n) its (home c n) part found
 
-  class_contest : (r : Role) (n : List ℕ) (o : Option Class) → class_of_object r (object ms) ≡ o → IsPartOf t (Object r) (object ms) → get_member n ms ≡ Some x → AtContest t (object ms) (want_of_name (scope.Members r o) n) x
+  class_contest : (r : Role) (n : List ℕ) (o : Option Class) → class_of_object r (object ms) ≡ o → IsPartOf t (Object r) (object ms) → get_member n ms ≡ Some x
+      → AtContest t (object ms) (want_of_name (scope.Members r o) n) x
   class_contest r n o among part found = at (bytes_eq n (codes "@type")) o among
     where
-      at : (b : Bool) (o : Option Class) → class_of_object r (object ms) ≡ o → AtContest t (object ms) (cond b (Some (ClassText r)) (option_map (λ c. member_want c n) o)) x
+      at : (b : Bool) (o : Option Class) → class_of_object r (object ms) ≡ o
+          → AtContest t (object ms) (cond b (Some (ClassText r)) (option_map (λ c. member_want c n) o)) x
       at true o among = tt
       at false None among = tt
       at false (Some c) among = member_contest r c n (class_role r (object ms) c among) part found
@@ -104,7 +117,8 @@ module _ (t : Data) (clean : NoneOf (ShapeFault t)) (ms : Members) (x : Data) wh
   carried_contest true = tt
   carried_contest false = tt
 
-  name_contest : (w : Want) (n : List ℕ) → IsPartOf t w (object ms) → get_member n ms ≡ Some x → AtContest t (object ms) (want_of_name (scope_inside w (object ms)) n) x
+  name_contest : (w : Want) (n : List ℕ) → IsPartOf t w (object ms) → get_member n ms ≡ Some x
+      → AtContest t (object ms) (want_of_name (scope_inside w (object ms)) n) x
   name_contest (Object r) n part found = class_contest r n (class_of_object r (object ms)) refl part found
   name_contest (Member kind.Label required) n part found = class_contest role.Label n (class_of_object role.Label (object ms)) refl tt found
   name_contest Carried n part found = carried_contest _
@@ -113,9 +127,15 @@ module _ (t : Data) (clean : NoneOf (ShapeFault t)) (ms : Members) (x : Data) wh
 pub goes_inward : (t : Data) → NoneOf (ShapeFault t) → IsTree t → GoesInward (IsHeld t)
 goes_inward t clean tree = record {
   entries = λ o w v ds i x h asks found.
-      record { stands = entry_stands t w v (array ds) asks h.stands x (entry_has ds i x found); contest = subst (λ a. AtContest t o a x) asks (entry_contest t o w ds i x h.contest found) };
+      record {
+        stands = entry_stands t w v (array ds) asks h.stands x (entry_has ds i x found);
+        contest = subst (λ a. AtContest t o a x) asks (entry_contest t o w ds i x h.contest found);
+      };
   members = λ o w v ms k x h asks found.
-      record { stands = member_stands t w ms h.stands k v x asks found; contest = subst (λ a. AtContest t (object ms) a x) asks (name_contest t clean ms x w k (part_of t w (object ms) h.stands) found) };
+      record {
+        stands = member_stands t w ms h.stands k v x asks found;
+        contest = subst (λ a. AtContest t (object ms) a x) asks (name_contest t clean ms x w k (part_of t w (object ms) h.stands) found);
+      };
   trees = λ o w d h. stands_tree t w d tree h.stands;
 }
 
@@ -157,22 +177,28 @@ of_role_id : (r : Role) (n : List ℕ) → is_some (family_of_role r) ≡ true �
 of_role_id (role.OfFamily f) n h named = record { its_family = f; asks = refl; named = named }
 of_role_id r n h named = cc
 
-kind_id : (r : Role) (c : Class) (n : List ℕ) (k : MemberKind) (required q : Bool) → role_of_class c ≡ r → is_home c n k ≡ true → want_of_kind k required ≡ Member kind.Identity q → HoldsId (Object r) n
+kind_id : (r : Role) (c : Class) (n : List ℕ) (k : MemberKind) (required q : Bool) → role_of_class c ≡ r → is_home c n k ≡ true → want_of_kind k required
+    ≡ Member kind.Identity q → HoldsId (Object r) n
 kind_id r c n kind.Identity required q its at e =
-    let b = and_parts (is_some (family_of_class c)) (bytes_eq n (codes "@id")) at in of_role_id r n (subst (λ z. is_some (family_of_role z) ≡ true) its b.0) (text_exact n (codes "@id") b.1)
+    let b = and_parts (is_some (family_of_class c)) (bytes_eq n (codes "@id")) at in
+    of_role_id r n (subst (λ z. is_some (family_of_role z) ≡ true) its b.0) (text_exact n (codes "@id") b.1)
 kind_id r c n k required q its at e = cc
 
-class_id : (r : Role) (n : List ℕ) (q : Bool) (d : Data) (o : Option Class) → class_of_object r d ≡ o → want_of_name (scope.Members r o) n ≡ Some (Member kind.Identity q) → HoldsId (Object r) n
+class_id : (r : Role) (n : List ℕ) (q : Bool) (d : Data) (o : Option Class) → class_of_object r d ≡ o → want_of_name (scope.Members r o) n
+    ≡ Some (Member kind.Identity q) → HoldsId (Object r) n
 class_id r n q d o among e = at (bytes_eq n (codes "@type")) o among e
   where
-    inside : (c : Class) (b : Bool) → role_of_class c ≡ r → cond b Status (want_of_kind (kind_of_member c n) (is_required c n)) ≡ Member kind.Identity q → HoldsId (Object r) n
+    inside : (c : Class) (b : Bool) → role_of_class c ≡ r → cond b Status (want_of_kind (kind_of_member c n) (is_required c n))
+        ≡ Member kind.Identity q → HoldsId (Object r) n
     inside c true its e = cc
     inside c false its e = kind_id r c n (kind_of_member c n) (is_required c n) q its (home c n) e
 
-    at : (b : Bool) (o : Option Class) → class_of_object r d ≡ o → cond b (Some (ClassText r)) (option_map (λ c. member_want c n) o) ≡ Some (Member kind.Identity q) → HoldsId (Object r) n
+    at : (b : Bool) (o : Option Class) → class_of_object r d ≡ o → cond b (Some (ClassText r)) (option_map (λ c. member_want c n) o)
+        ≡ Some (Member kind.Identity q) → HoldsId (Object r) n
     at true o among e = cc
     at false None among e = cc
-    at false (Some c) among e = inside c (is_report_class c && bytes_eq n (codes "Status")) (class_role r d c among) (let same : member_want c n ≡ Member kind.Identity q = cc in same)
+    at false (Some c) among e = inside c (is_report_class c && bytes_eq n (codes "Status")) (class_role r d c among)
+        (let same : member_want c n ≡ Member kind.Identity q = cc in same)
 
 pub holds_id : (w : Want) (ms : Members) (n : List ℕ) (q : Bool) → want_of_name (scope_inside w (object ms)) n ≡ Some (Member kind.Identity q) → HoldsId w n
 holds_id (Object r) ms n q e = class_id r n q (object ms) (class_of_object r (object ms)) refl e
@@ -225,5 +251,6 @@ pub viewed_tree : (π : Preference) (t : Data) → IsTree t → IsTree (whole (s
 viewed_tree π t tree = view-tree (style_of π t) (puts_trees π t) null (Some (Object role.Report)) t tree
 
 -- whatever is asked in the report that is written
-pub asked_in_form : (π : Preference) (t : Data) → NoneOf (ShapeFault t) → IsTree t → (p : List Rattle.erd_tables.specs.declared.place.Step.Step) (a : Asked) → asked_at (whole (style_of π t) t) p ≡ Some a → IsViewOf (style_of π t) (IsHeld t) a.want a.value
+pub asked_in_form : (π : Preference) (t : Data) → NoneOf (ShapeFault t) → IsTree t → (p : List Rattle.erd_tables.specs.declared.place.Step.Step) (a : Asked)
+    → asked_at (whole (style_of π t) t) p ≡ Some a → IsViewOf (style_of π t) (IsHeld t) a.want a.value
 asked_in_form π t clean tree = asked_viewed (style_of π t) (IsHeld t) (goes_inward t clean tree) (puts_no_type π t) (puts_flat π t) t (root_held t)

@@ -39,5 +39,4 @@ AreDue ms = NamesRise (due_list ms)
 pub record WritesThrough (all left : List (List ℕ × Data)) (name : List ℕ) (taken : Bool) (was now : List Token) : Type 0 where
   pub kept : taken ≡ false → (v : Data) (ms : Members)
       → was ++ members_tokens (put_all all (member name v ms)) ≡ now ++ key name ∷ (value_tokens v ++ members_tokens (put_all left ms))
-  pub replaced : taken ≡ true → (v : Data) (ms : Members)
-      → was ++ members_tokens (put_all all (member name v ms)) ≡ now ++ members_tokens (put_all left ms)
+  pub replaced : taken ≡ true → (v : Data) (ms : Members) → was ++ members_tokens (put_all all (member name v ms)) ≡ now ++ members_tokens (put_all left ms)

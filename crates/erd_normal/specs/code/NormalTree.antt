@@ -156,8 +156,7 @@ abbrev pub envelope_values : List (List ℕ × Data)
 envelope_values =
     (codes "Format", string (codes "summary-contest")) ∷ (codes "GeneratedDate", string (codes "2000-01-01T00:00:00Z"))
     ∷ (codes "Issuer", string (codes "canonical")) ∷ (codes "IssuerAbbreviation", string (codes "canonical"))
-    ∷ (codes "SequenceEnd", number (unsigned 1)) ∷ (codes "SequenceStart", number (unsigned 1))
-    ∷ (codes "VendorApplicationId", string (codes "canonical")) ∷ []
+    ∷ (codes "SequenceEnd", number (unsigned 1)) ∷ (codes "SequenceStart", number (unsigned 1)) ∷ (codes "VendorApplicationId", string (codes "canonical")) ∷ []
 
 -- The members with those of the canonical envelope.
 abbrev pub with_envelope : Members → Members

@@ -9,5 +9,4 @@ invariant-same_items-loop-item l =
 
 abbrev pub invariant-same_members-loop-name : goal.invariant-same_members-loop-name
 invariant-same_members-loop-name l =
-    are_same_members (members_view l.left.entries) (members_view l.right.entries)
-    ≡ are_same_members (members_view l.name-iterator) (members_view l.others)
+    are_same_members (members_view l.left.entries) (members_view l.right.entries) ≡ are_same_members (members_view l.name-iterator) (members_view l.others)

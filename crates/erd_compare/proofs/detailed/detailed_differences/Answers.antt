@@ -6,7 +6,8 @@ use Rattle.erd_compare.specs.declared.detailed.DetailedDifference.{DetailedDiffe
 use Rattle.erd_compare.proofs.detailed.detailed_differences.Goals as goal
 
 -- all differences of the comparer's reports, with what is told of them, are those of the two
-as_detailed : (x y a b : Judged) (first most : ℕ) (ds : List Difference) (es : List DetailedDifference) → x ≡ a → y ≡ b → AreDifferences (meaning x.prefer (view x.tree)) (meaning y.prefer (view y.tree)) ds
+as_detailed : (x y a b : Judged) (first most : ℕ) (ds : List Difference) (es : List DetailedDifference) → x ≡ a → y ≡ b
+    → AreDifferences (meaning x.prefer (view x.tree)) (meaning y.prefer (view y.tree)) ds
     → map (λ e. e.difference) es ≡ ds → AreTold (meaning x.prefer (view x.tree)) (meaning y.prefer (view y.tree)) first (Some most) es
     → AreDetailedDifferences (meaning a.prefer (view a.tree)) (meaning b.prefer (view b.tree)) first most es
 as_detailed x y a b first most ds es left right are listed told =
@@ -27,5 +28,7 @@ both_facts (Err e) P Q R follows p q = tt
 pub returns : goal.returns
 returns c =
     both_facts c.with_selections.result _ _ _
-    (λ found listed told. as_detailed c.in_ok-comparer.comparer.left c.in_ok-comparer.comparer.right c.args.left.now c.args.right.now c.args.first c.args.most_bytes c.in_ok-found.found.items found.items
-    c.in_ok-comparer.ensures.left c.in_ok-comparer.ensures.right c.in_ok-found.ensures listed told) c.with_selections.ensures.listed c.with_selections.ensures.told
+    (λ found listed told. as_detailed c.in_ok-comparer.comparer.left c.in_ok-comparer.comparer.right c.args.left.now c.args.right.now c.args.first
+    c.args.most_bytes c.in_ok-found.found.items found.items
+    c.in_ok-comparer.ensures.left c.in_ok-comparer.ensures.right c.in_ok-found.ensures listed told) c.with_selections.ensures.listed
+    c.with_selections.ensures.told

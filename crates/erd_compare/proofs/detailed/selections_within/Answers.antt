@@ -7,7 +7,8 @@ use Rattle.erd_compare.specs.declared.inside.named.NamedWays.{NamedWays}
 use Rattle.erd_compare.proofs.detailed.selections_within.Goals as goal
 
 -- the room behind the text
-left_as : (lent vs : List NamedWays) (room : ℕ) (after : Option ℕ) → lent ≡ vs → Leaves (text_size (Some (differences_at lent))) room after → Leaves (text_size (Some (differences_at vs))) room after
+left_as : (lent vs : List NamedWays) (room : ℕ) (after : Option ℕ) → lent ≡ vs → Leaves (text_size (Some (differences_at lent))) room after
+    → Leaves (text_size (Some (differences_at vs))) room after
 left_as lent vs room after same leaves = subst (λ ws. Leaves (text_size (Some (differences_at ws))) room after) same leaves
 
 -- what is told where some room is left, and where none is
@@ -24,8 +25,10 @@ returns-in_ok-differences_at-in-Some-room c =
     let vs = c.in_ok-ways.ways.items in
     let after = c.in_ok-room.field-0 in
     let told = c.in_ok-differences_at-in-Some-room.field-0.items in
-    passes_inside m n vs c.in_ok-ways.ensures c.args.room.now after c.in-Some.bytes c.in-Some.is (left_as c.deref.result.now vs c.in-Some.bytes after c.deref.ensures.value c.in_ok-room.ensures) (Some told)
-    (shown_as after c.in-Some-room.field-0 told _ c.in-Some-room.is (c.in_ok-differences_at-in-Some-room.ensures ∙ ap differences_at (c.deref-in-Some-room.ensures.value ∙ c.in_ok-by_name-in-Some-room.ensures)))
+    passes_inside m n vs c.in_ok-ways.ensures c.args.room.now after c.in-Some.bytes c.in-Some.is
+    (left_as c.deref.result.now vs c.in-Some.bytes after c.deref.ensures.value c.in_ok-room.ensures) (Some told)
+    (shown_as after c.in-Some-room.field-0 told _ c.in-Some-room.is
+    (c.in_ok-differences_at-in-Some-room.ensures ∙ ap differences_at (c.deref-in-Some-room.ensures.value ∙ c.in_ok-by_name-in-Some-room.ensures)))
 
 pub returns-in-None : goal.returns-in-None
 returns-in-None c =
@@ -33,5 +36,6 @@ returns-in-None c =
     let n = contest_map c.args.comparer.now.right c.args.other_contest in
     let vs = c.in_ok-ways.ways.items in
     let after = c.in_ok-room.field-0 in
-    passes_inside m n vs c.in_ok-ways.ensures c.args.room.now after c.in-Some.bytes c.in-Some.is (left_as c.deref.result.now vs c.in-Some.bytes after c.deref.ensures.value c.in_ok-room.ensures) None
+    passes_inside m n vs c.in_ok-ways.ensures c.args.room.now after c.in-Some.bytes c.in-Some.is
+    (left_as c.deref.result.now vs c.in-Some.bytes after c.deref.ensures.value c.in_ok-room.ensures) None
     (not_shown after _ c.in-None.is)

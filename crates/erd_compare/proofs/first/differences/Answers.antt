@@ -3,7 +3,8 @@ use Rattle.erd_compare.proofs.differing.PartLists.{first_of_all, has_each, none_
 use Rattle.erd_compare.proofs.first.differences.Goals as goal
 
 -- all differences of the comparer's reports are those of the two
-as_compared : (x y a b : Judged) (ds : List Difference) → x ≡ a → y ≡ b → AreDifferences (meaning x.prefer (view x.tree)) (meaning y.prefer (view y.tree)) ds → AreDifferences (meaning a.prefer (view a.tree)) (meaning b.prefer (view b.tree)) ds
+as_compared : (x y a b : Judged) (ds : List Difference) → x ≡ a → y ≡ b → AreDifferences (meaning x.prefer (view x.tree)) (meaning y.prefer (view y.tree)) ds
+    → AreDifferences (meaning a.prefer (view a.tree)) (meaning b.prefer (view b.tree)) ds
 as_compared x y a b ds left right told =
     subst (λ (j : Judged). AreDifferences (meaning j.prefer (view j.tree)) (meaning b.prefer (view b.tree)) ds) left
     (subst (λ (j : Judged). AreDifferences (meaning x.prefer (view x.tree)) (meaning j.prefer (view j.tree)) ds) right told)
@@ -15,7 +16,8 @@ returns c =
     let x = c.in_ok-comparer.comparer.left in
     let y = c.in_ok-comparer.comparer.right in
     let are =
-    IfOk-weaker c.all_differences.result (λ found. AreDifferences (meaning x.prefer (view x.tree)) (meaning y.prefer (view y.tree)) found.items) (λ found. AreDifferences (meaning a.prefer (view a.tree)) (meaning b.prefer (view b.tree)) found.items)
+    IfOk-weaker c.all_differences.result (λ found. AreDifferences (meaning x.prefer (view x.tree)) (meaning y.prefer (view y.tree)) found.items)
+    (λ found. AreDifferences (meaning a.prefer (view a.tree)) (meaning b.prefer (view b.tree)) found.items)
     (λ found h. as_compared x y a b found.items c.in_ok-comparer.ensures.left c.in_ok-comparer.ensures.right h) c.all_differences.ensures in
     record {
       all = are;

@@ -3,4 +3,5 @@ use Rattle.erd_compare.proofs.first.first_difference.Given as goal
 
 abbrev pub invariant-loop-part : goal.invariant-loop-part
 invariant-loop-part l =
-    (p : Part) (k : Option Key) → part_number p < l.part-index → record_at (meaning l.fn.left.prefer (view l.fn.left.tree)) p k ≡ record_at (meaning l.fn.right.prefer (view l.fn.right.tree)) p k
+    (p : Part) (k : Option Key) → part_number p < l.part-index → record_at (meaning l.fn.left.prefer (view l.fn.left.tree)) p k
+    ≡ record_at (meaning l.fn.right.prefer (view l.fn.right.tree)) p k

@@ -1,5 +1,15 @@
 -- Members that a report must have, and lists of references to selections.
-use Rattle.erd_normal.proofs.Common.{◌≡◌, ℕ, Bool, true, false, ◌&&◌, List, [], ◌∷◌, ◌++◌, Some, None, Option, option_map, option_and_then, sym, refl, ap, ◌∙◌, subst, true≢false, same_Some, AllByRecursion, option_map_or, Data, array, object, Items, Members, get_member, get_item, role_of_class, Class, class, family, Role, role, kind, Step, At, Name, and_then-Some, list_of_items, entries_of, entries_at, class_of_object, scope_inside, member_want, want_of_name, entry_want, is_compared_set, Asked, asked, is_repeated, asked_of_member, asked_inside, asked_from, asked_at, Want, Carried, Member, Object, Reference, class_role, is_other_selection, NamesOtherContest, class_of_node, In-all, cond, not, ◌||◌, codes, bytes_eq, and_parts, list_all, list_any, no_items, get, Row, rows_of_class, is_envelope_name, kind_of_identity, kind_of_member, required_names, is_required, reason, MemberKind, text_exact, text_itself, Within-step, faultless, lacks_none, Within, kind_of_name, kind_of_id, want_unless_status, names_wanted, ShapeFault, NoneOf, want_of_kind, is_report_class, Scope, scope, ClassText, Status, is_array_kind, is_envelope, an_empty_array, of_the_envelope, an_unused_id, MayBeAbsent, string, Reason, is_shape_fault, carried_want, has_kind, In-any, any_at, each_holds}
+use Rattle.erd_normal.proofs.Common.{◌≡◌, ℕ, Bool, true, false, ◌&&◌, List, [], ◌∷◌, ◌++◌, Some, None, Option, option_map, option_and_then, sym, refl, ap, ◌∙◌}
+use Rattle.erd_normal.proofs.Common.{subst, true≢false, same_Some, AllByRecursion, option_map_or, Data, array, object, Items, Members, get_member, get_item}
+use Rattle.erd_normal.proofs.Common.{role_of_class, Class, class, family, Role, role, kind, Step, At, Name, and_then-Some, list_of_items, entries_of}
+use Rattle.erd_normal.proofs.Common.{entries_at, class_of_object, scope_inside, member_want, want_of_name, entry_want, is_compared_set, Asked, asked}
+use Rattle.erd_normal.proofs.Common.{is_repeated, asked_of_member, asked_inside, asked_from, asked_at, Want, Carried, Member, Object, Reference, class_role}
+use Rattle.erd_normal.proofs.Common.{is_other_selection, NamesOtherContest, class_of_node, In-all, cond, not, ◌||◌, codes, bytes_eq, and_parts, list_all}
+use Rattle.erd_normal.proofs.Common.{list_any, no_items, get, Row, rows_of_class, is_envelope_name, kind_of_identity, kind_of_member, required_names}
+use Rattle.erd_normal.proofs.Common.{is_required, reason, MemberKind, text_exact, text_itself, Within-step, faultless, lacks_none, Within, kind_of_name}
+use Rattle.erd_normal.proofs.Common.{kind_of_id, want_unless_status, names_wanted, ShapeFault, NoneOf, want_of_kind, is_report_class, Scope, scope, ClassText}
+use Rattle.erd_normal.proofs.Common.{Status, is_array_kind, is_envelope, an_empty_array, of_the_envelope, an_unused_id, MayBeAbsent, string, Reason}
+use Rattle.erd_normal.proofs.Common.{is_shape_fault, carried_want, has_kind, In-any, any_at, each_holds}
 use Rattle.erd_meaning.proofs.references.ReferenceWalks.{asked_from-append}
 use Rattle.erd_normal.proofs.canonical.CanonicalIds.{list_name}
 use Rattle.erd_normal.proofs.same.Related.{entry_has}
@@ -49,27 +59,31 @@ record OfContest (w : Want) (d : Data) (b : Asked) : Type 0 where
   among : class_of_node d ≡ Some class.OrderedContest
   stands : (ms : Members) × (d ≡ object ms) × (get_member list_name ms ≡ Some b.value)
 
-of_class : (r : Role) (ms : Members) (c : Class) (b : Asked) → class_of_object r (object ms) ≡ Some c → c ≡ class.OrderedContest → get_member list_name ms ≡ Some b.value
-    → (r ≡ role.Content) × (class_of_node (object ms) ≡ Some class.OrderedContest)
+of_class : (r : Role) (ms : Members) (c : Class) (b : Asked) → class_of_object r (object ms) ≡ Some c → c ≡ class.OrderedContest
+    → get_member list_name ms ≡ Some b.value → (r ≡ role.Content) × (class_of_node (object ms) ≡ Some class.OrderedContest)
 of_class r ms c b among is found =
     let content : role.Content ≡ r = ap role_of_class (sym is) ∙ class_role r (object ms) c among in
     (sym content, ap (λ q. class_of_object q (object ms)) content ∙ among ∙ ap Some is)
 
-class_listing : (r : Role) (ms : Members) (b : Asked) (want : Want) → option_map (λ c. member_want c list_name) (class_of_object r (object ms)) ≡ Some want → want ≡ b.want → lists_selections b.want ≡ true
+class_listing : (r : Role) (ms : Members) (b : Asked) (want : Want) → option_map (λ c. member_want c list_name) (class_of_object r (object ms)) ≡ Some want
+    → want ≡ b.want → lists_selections b.want ≡ true
     → get_member list_name ms ≡ Some b.value → (r ≡ role.Content) × (class_of_node (object ms) ≡ Some class.OrderedContest)
 class_listing r ms b want wanted same lists found = at (class_of_object r (object ms)) refl wanted
   where
-    at : (o : Option Class) → class_of_object r (object ms) ≡ o → option_map (λ c. member_want c list_name) o ≡ Some want → (r ≡ role.Content) × (class_of_node (object ms) ≡ Some class.OrderedContest)
+    at : (o : Option Class) → class_of_object r (object ms) ≡ o → option_map (λ c. member_want c list_name) o ≡ Some want → (r ≡ role.Content)
+        × (class_of_node (object ms) ≡ Some class.OrderedContest)
     at None among e = cc
     at (Some c) among e =
         let asks : member_want c list_name ≡ b.want = same_Some (member_want c list_name) want e ∙ same in
         of_class r ms c b among (only_contests c (ap lists_selections asks ∙ lists)) found
 
-in_contest : (w : Want) (ms : Members) (b : Asked) → MemberFound (want_of_name (scope_inside w (object ms)) list_name) (get_member list_name ms) b → lists_selections b.want ≡ true → OfContest w (object ms) b
+in_contest : (w : Want) (ms : Members) (b : Asked) → MemberFound (want_of_name (scope_inside w (object ms)) list_name) (get_member list_name ms) b
+    → lists_selections b.want ≡ true → OfContest w (object ms) b
 in_contest (Object r) ms b m lists =
     let h = class_listing r ms b m.want m.wanted m.same lists m.found in
     record { content = ap Object h.0; among = h.1; stands = (ms, refl, m.found) }
-in_contest (Member kind.Label required) ms b m lists = let h : role.Label ≡ role.Content = (class_listing role.Label ms b m.want m.wanted m.same lists m.found).0 in cc
+in_contest (Member kind.Label required) ms b m lists = let h : role.Label ≡ role.Content =
+    (class_listing role.Label ms b m.want m.wanted m.same lists m.found).0 in cc
 in_contest Carried ms b m lists =
     let asks : Member kind.StrangeIdentity false ≡ b.want = same_Some (Member kind.StrangeIdentity false) m.want m.wanted ∙ m.same in
     absurd (true≢false (sym lists ∙ ap lists_selections (sym asks)))
@@ -95,7 +109,8 @@ entry_of : (w : Want) (d : Data) (i : ℕ) (a : Asked) → asked_inside w d (At 
 entry_of w (array ds) i a e is = at (entry_want w) refl (get_item i ds) refl e
   where
     at : (ow : Option Want) → entry_want w ≡ ow → (o : Option Data) → get_item i ds ≡ o
-        → option_and_then (λ v. option_map (λ d. record { want = v; value = d; repeated = is_compared_set w && is_repeated ds i d }) o) ow ≡ Some a → EntryOf w (array ds) i a
+        → option_and_then (λ v. option_map (λ d. record { want = v; value = d; repeated = is_compared_set w && is_repeated ds i d }) o) ow ≡ Some a
+        → EntryOf w (array ds) i a
     at (Some v) want (Some d) found e =
         let same : record { want = v; value = d; repeated = is_compared_set w && is_repeated ds i d } ≡ a = cc in
         record {
@@ -118,7 +133,8 @@ none_elsewhere u listed p h =
     let inside : asked_from h.ordered_contest (Name list_name ∷ At h.position ∷ []) ≡ Some h.entry =
     ap (option_and_then (λ b. asked_from b (Name list_name ∷ At h.position ∷ []))) (sym h.ordered_contest_stands)
     ∙ sym (asked_from-append (asked (Object role.Report) u) h.object_place (Name list_name ∷ At h.position ∷ [])) ∙ steps in
-    let b = and_then-Some (λ b. asked_from b (At h.position ∷ [])) (asked_inside h.ordered_contest.want h.ordered_contest.value (Name list_name)) h.entry inside in
+    let b = and_then-Some (λ b. asked_from b (At h.position ∷ [])) (asked_inside h.ordered_contest.want h.ordered_contest.value (Name list_name)) h.entry
+    inside in
     let c = and_then-Some (λ c. asked_from c []) (asked_inside b.0.want b.0.value (At h.position)) h.entry b.2 in
     let wants : h.entry.want ≡ Reference family.Selection = elsewhere_wants u h.ordered_contest.value h.entry.want h.entry.value h.elsewhere in
     let entry : EntryOf b.0.want b.0.value h.position h.entry = entry_of b.0.want b.0.value h.position h.entry (c.1 ∙ c.2) wants in
@@ -128,7 +144,8 @@ none_elsewhere u listed p h =
     ap (entries_at list_name) owner.stands.1 ∙ ap (λ o. option_map_or entries_of o []) (owner.stands.2 ∙ ap Some entry.is_array) in
     let here : is_other_selection u h.ordered_contest.value (Reference family.Selection) h.entry.value ≡ false =
     In-all (λ e. is_other_selection u h.ordered_contest.value (Reference family.Selection) e ≡ false) h.entry.value (list_of_items entry.items)
-    (subst (AllByRecursion (λ e. is_other_selection u h.ordered_contest.value (Reference family.Selection) e ≡ false)) entries all) (entry_has entry.items h.position h.entry.value entry.found) in
+    (subst (AllByRecursion (λ e. is_other_selection u h.ordered_contest.value (Reference family.Selection) e ≡ false)) entries all)
+    (entry_has entry.items h.position h.entry.value entry.found) in
     true≢false (sym h.elsewhere ∙ ap (λ w. is_other_selection u h.ordered_contest.value w h.entry.value) wants ∙ here)
 
 -- ---- the names that a class requires
@@ -170,8 +187,10 @@ all_due : (c : Class) → list_all (is_due c) (required_names c) ≡ true
 all_due class.ElectionReport = refl
 all_due c = refl
 
-due : (c : Class) (n : List ℕ) → list_any (bytes_eq n) (required_names c) ≡ true → (is_due_kind (kind_of_member c n) ≡ true) × (not (is_report_class c && is_envelope_name n) ≡ true)
-due c n h = and_parts (is_due_kind (kind_of_member c n)) (not (is_report_class c && is_envelope_name n)) (named_passes (is_due c) n (required_names c) (all_due c) h)
+due : (c : Class) (n : List ℕ) → list_any (bytes_eq n) (required_names c) ≡ true → (is_due_kind (kind_of_member c n) ≡ true)
+    × (not (is_report_class c && is_envelope_name n) ≡ true)
+due c n h = and_parts (is_due_kind (kind_of_member c n)) (not (is_report_class c && is_envelope_name n))
+    (named_passes (is_due c) n (required_names c) (all_due c) h)
 
 abbrev is_elections_kind : MemberKind → Bool
 is_elections_kind kind.Elections = true
@@ -201,7 +220,8 @@ elections_required c n no_type is = at (bytes_eq n (codes "@id")) refl
 
 -- ---- what is asked of a member
 
-want_parts : (q : MemberKind) (b : Bool) (k : MemberKind) (required : Bool) → want_of_kind q b ≡ Member k required → (q ≡ k) × ((may_need_entry k && b) ≡ required)
+want_parts : (q : MemberKind) (b : Bool) (k : MemberKind) (required : Bool) → want_of_kind q b ≡ Member k required → (q ≡ k)
+    × ((may_need_entry k && b) ≡ required)
 want_parts kind.Carried b k required e = cc
 want_parts q b k required e = (cc, cc)
 
@@ -211,7 +231,8 @@ pub record MemberOf (c : Class) (n : List ℕ) (k : MemberKind) (required : Bool
   pub kind_is : kind_of_member c n ≡ k
   pub required_is : (may_need_entry k && is_required c n) ≡ required
 
-pub member_of : (r : Role) (c : Class) (n : List ℕ) (k : MemberKind) (required : Bool) → want_of_name (scope.Members r (Some c)) n ≡ Some (Member k required) → MemberOf c n k required
+pub member_of : (r : Role) (c : Class) (n : List ℕ) (k : MemberKind) (required : Bool) → want_of_name (scope.Members r (Some c)) n ≡ Some (Member k required)
+    → MemberOf c n k required
 member_of r c n k required asks = at (bytes_eq n (codes "@type")) refl (is_report_class c && bytes_eq n (codes "Status")) refl
   where
     at : (b : Bool) → bytes_eq n (codes "@type") ≡ b → (s : Bool) → (is_report_class c && bytes_eq n (codes "Status")) ≡ s → MemberOf c n k required
@@ -247,18 +268,22 @@ module _ (t : Data) (clean : NoneOf (ShapeFault t)) where
       → ((v : Want) → want_of_name (scope.Members r (Some c)) n ≡ Some v → Within t (asked v d)) → MayBeAbsent t (scope.Members r (Some c)) n d → ⊥
   stays_in_class r c n d named inside (an_empty_array k required asks is empty) =
       let m = member_of r c n k required asks in
-      let must : required ≡ may_need_entry k = sym m.required_is ∙ ap (λ b. may_need_entry k && b) (required_if_named c n named) ∙ and-true (may_need_entry k) in
+      let must : required ≡ may_need_entry k = sym m.required_is ∙ ap (λ b. may_need_entry k && b) (required_if_named c n named)
+      ∙ and-true (may_need_entry k) in
       refused k (due_array k (subst (λ x. is_due_kind x ≡ true) m.kind_is (due c n named).0) is)
-      (subst (λ x. Within t (asked (Member k (may_need_entry k)) x)) empty (subst (λ x. Within t (asked (Member k x) d)) must (inside (Member k required) asks)))
+      (subst (λ x. Within t (asked (Member k (may_need_entry k)) x)) empty
+      (subst (λ x. Within t (asked (Member k x) d)) must (inside (Member k required) asks)))
   stays_in_class r c n d named inside (of_the_envelope h) = in_envelope r c n h (due c n named).1
   stays_in_class r c n d named inside (an_unused_id id required asks is unused) =
       let m = member_of r c n kind.Identity required asks in
       true≢false (sym (due c n named).0 ∙ ap is_due_kind m.kind_is)
 
-  stays_in : (s : Scope) (n : List ℕ) (d : Data) → list_any (bytes_eq n) (names_wanted s) ≡ true → ((v : Want) → want_of_name s n ≡ Some v → Within t (asked v d)) → MayBeAbsent t s n d → ⊥
+  stays_in : (s : Scope) (n : List ℕ) (d : Data) → list_any (bytes_eq n) (names_wanted s) ≡ true
+      → ((v : Want) → want_of_name s n ≡ Some v → Within t (asked v d)) → MayBeAbsent t s n d → ⊥
   stays_in (scope.Members r (Some c)) n d named inside h = stays_in_class r c n d named inside h
   stays_in (scope.Members r None) n d named inside h =
-      type_stays t (scope.Members r None) d (subst (λ y. MayBeAbsent t (scope.Members r None) y d) (text_exact n (codes "@type") (at (bytes_eq n (codes "@type")) named)) h)
+      type_stays t (scope.Members r None) d
+      (subst (λ y. MayBeAbsent t (scope.Members r None) y d) (text_exact n (codes "@type") (at (bytes_eq n (codes "@type")) named)) h)
     where
       at : (b : Bool) → b || false ≡ true → b ≡ true
       at true e = refl
@@ -266,12 +291,13 @@ module _ (t : Data) (clean : NoneOf (ShapeFault t)) where
   stays_in e n d named inside h = cc
 
   -- an object has each member that it must have, and none of these may be absent
-  pub required_stays : (a : Asked) (ms : Members) (n : List ℕ) → Within t a → a.value ≡ object ms → list_any (bytes_eq n) (names_wanted (scope_inside a.want (object ms))) ≡ true
-      → MayLack t (scope_inside a.want (object ms)) n (get_member n ms) → ⊥
+  pub required_stays : (a : Asked) (ms : Members) (n : List ℕ) → Within t a → a.value ≡ object ms
+      → list_any (bytes_eq n) (names_wanted (scope_inside a.want (object ms))) ≡ true → MayLack t (scope_inside a.want (object ms)) n (get_member n ms) → ⊥
   required_stays a ms n inside value named lacks = at (get_member n ms) refl lacks
     where
       at : (o : Option Data) → get_member n ms ≡ o → MayLack t (scope_inside a.want (object ms)) n o → ⊥
-      at None found h = lacks_none t clean a n inside (ap (λ x. list_any (bytes_eq n) (names_wanted (scope_inside a.want x))) value ∙ named) (ap (get n) value ∙ found)
+      at None found h = lacks_none t clean a n inside (ap (λ x. list_any (bytes_eq n) (names_wanted (scope_inside a.want x))) value ∙ named)
+          (ap (get n) value ∙ found)
       at (Some d) found h =
           stays_in (scope_inside a.want (object ms)) n d named
           (λ v asks. Within-step t a (asked v d) (Name n) inside (rw (value, asks, found) refl)) (h.each d refl)
@@ -297,7 +323,8 @@ quiet_lone (Object role.Content) h = cc
 quiet_lone w h = cc
 
 -- where nothing is asked inside
-closed_sound : (v : Want) (d : Data) → IsSound (asked v d) → ((s : Step) (ss : List Step) (b : Asked) → asked_from (asked v d) (s ∷ ss) ≡ Some b → ⊥) → IsSoundInside (asked v d)
+closed_sound : (v : Want) (d : Data) → IsSound (asked v d) → ((s : Step) (ss : List Step) (b : Asked) → asked_from (asked v d) (s ∷ ss) ≡ Some b → ⊥)
+    → IsSoundInside (asked v d)
 closed_sound v d sound none [] b e = let one : asked v d ≡ b = cc in subst IsSound one sound
 closed_sound v d sound none (s ∷ ss) b e = absurd (none s ss b e)
 
@@ -308,11 +335,13 @@ record IsSpare (k : MemberKind) (required : Bool) : Type 0 where
   optional : required ≡ true → ⊥
   other : k ≡ kind.Elections → ⊥
 
-carried_array : (b : Bool) (k : MemberKind) (required : Bool) → is_array_kind k ≡ true → cond b (Member kind.StrangeIdentity false) Carried ≡ Member k required → ⊥
+carried_array : (b : Bool) (k : MemberKind) (required : Bool) → is_array_kind k ≡ true → cond b (Member kind.StrangeIdentity false) Carried
+    ≡ Member k required → ⊥
 carried_array true k required is_array e = let same : kind.StrangeIdentity ≡ k = cc in let h : false ≡ true = ap is_array_kind same ∙ is_array in cc
 carried_array false k required is_array e = cc
 
-spare : (s : Scope) (n : List ℕ) (k : MemberKind) (required : Bool) → is_array_kind k ≡ true → want_of_name s n ≡ Some (Member k required) → (list_any (bytes_eq n) (names_wanted s) ≡ true → ⊥) → IsSpare k required
+spare : (s : Scope) (n : List ℕ) (k : MemberKind) (required : Bool) → is_array_kind k ≡ true → want_of_name s n ≡ Some (Member k required)
+    → (list_any (bytes_eq n) (names_wanted s) ≡ true → ⊥) → IsSpare k required
 spare (scope.Members r (Some c)) n k required is_array asks none =
     let m = member_of r c n k required asks in
     record {
@@ -332,7 +361,8 @@ array_kind : (k : MemberKind) → is_array_kind k ≡ true → not (has_kind k (
 array_kind kind.Identity is_array = cc
 array_kind k is_array = cc
 
-array_fault : (k : MemberKind) (required : Bool) → is_array_kind k ≡ true → IsSpare k required → (r : Reason) → is_shape_fault (asked (Member k required) (array no_items)) r ≡ false
+array_fault : (k : MemberKind) (required : Bool) → is_array_kind k ≡ true → IsSpare k required → (r : Reason)
+    → is_shape_fault (asked (Member k required) (array no_items)) r ≡ false
 array_fault k true is_array h r = absurd (h.optional refl)
 array_fault k false is_array h reason.WrongKind = array_kind k is_array
 array_fault kind.Elections false is_array h r = absurd (h.other refl)
@@ -361,8 +391,10 @@ same_want s n v w asks asks_too = let e : Some w ≡ Some v = sym asks_too ∙ a
 
 module _ (t u : Data) (clean : NoneOf (ShapeFault t)) where
   -- a member of u that is not in t, or may be absent there too, has no fault, if the envelope of u has none
-  pub absent_sound : (a : Asked) (ms : Members) (n : List ℕ) → Within t a → a.value ≡ object ms → MayLack t (scope_inside a.want (object ms)) n (get_member n ms)
-      → (v : Want) (d : Data) → want_of_name (scope_inside a.want (object ms)) n ≡ Some v → (is_envelope (scope_inside a.want (object ms)) n ≡ true → IsSoundInside (asked v d))
+  pub absent_sound : (a : Asked) (ms : Members) (n : List ℕ) → Within t a → a.value ≡ object ms
+      → MayLack t (scope_inside a.want (object ms)) n (get_member n ms)
+      → (v : Want) (d : Data) → want_of_name (scope_inside a.want (object ms)) n ≡ Some v
+      → (is_envelope (scope_inside a.want (object ms)) n ≡ true → IsSoundInside (asked v d))
       → MayBeAbsent u (scope_inside a.want (object ms)) n d → IsSoundInside (asked v d)
   absent_sound a ms n inside value lacks v d asks envelope (an_empty_array k required asks_too is empty) =
       let s = scope_inside a.want (object ms) in

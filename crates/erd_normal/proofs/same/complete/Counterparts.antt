@@ -1,5 +1,18 @@
 -- What two accepted reports that mean the same have in common: sets of references and of values, and the objects, by their keys.
-use Rattle.erd_normal.proofs.Common.{◌≡◌, ℕ, Bool, true, false, ◌&&◌, List, [], ◌∷◌, Some, None, Option, option_and_then, is_eq, sym, refl, ap, ◌∙◌, subst, ap₂, true≢false, tied_itself, Equal-is, IsDistinct, list_any, Data, string, array, Items, as_str, role_of_class, Class, Family, family, Role, MemberKind, kind, string_from_text, list_of_items-place, list_of_items-tree, text_itself, wanted_within, unrepeated, Within, is_simple_class, entry_itself, IsTree, AreTrees, is_same_json, list_of_items, entry_want, is_compared_set, asked, is_repeated, Member, Object, Reference, no_shape_fault, unrepeated_reference, resolves, unrepeated_distinct, IsAccepted, has_keys, key_cmp, Preference, key_of, is_selection_in, owner, key_set, meaning, key_named, keys_named, name_named, key_cmp_total, key_cmp_exact, Key, Sides, NameOneThing, an_id, Same, In, In-all, In-any, any_at, inl, inr, ◌⊎◌, map, codes, option_map, find, same_Some, options_total, option_cmp, no_items, get, role, entries_in, object_in, ObjectIn, and_then-Some, entries_at, class_of_object, objects_distinct, elections_distinct, held_key_in, no_identity_fault, find-Some, find-any, has_identifier, skeleton, values-placed_entries, election_stands, stands, contest_selections, options_exact, equal_keys, equal_names, election_key_of, SelectionRecord, ObjectRecord, NameParts, Placed, placed_entries, report_of, elections, contests, selections_of_contest, objects, plain_member, selection_record, selection_map, member_value, member_of_class, object_record, record_in_election, placed_record, placed_with_key, records_of, name_of, name_cmp, name_cmp_total, Ordering, IsTotalOrder, In-flat_map, In-flat_map_from, In-map}
+use Rattle.erd_normal.proofs.Common.{◌≡◌, ℕ, Bool, true, false, ◌&&◌, List, [], ◌∷◌, Some, None, Option, option_and_then, is_eq, sym, refl, ap, ◌∙◌, subst, ap₂}
+use Rattle.erd_normal.proofs.Common.{true≢false, tied_itself, Equal-is, IsDistinct, list_any, Data, string, array, Items, as_str, role_of_class, Class, Family}
+use Rattle.erd_normal.proofs.Common.{family, Role, MemberKind, kind, string_from_text, list_of_items-place, list_of_items-tree, text_itself, wanted_within}
+use Rattle.erd_normal.proofs.Common.{unrepeated, Within, is_simple_class, entry_itself, IsTree, AreTrees, is_same_json, list_of_items, entry_want}
+use Rattle.erd_normal.proofs.Common.{is_compared_set, asked, is_repeated, Member, Object, Reference, no_shape_fault, unrepeated_reference, resolves}
+use Rattle.erd_normal.proofs.Common.{unrepeated_distinct, IsAccepted, has_keys, key_cmp, Preference, key_of, is_selection_in, owner, key_set, meaning}
+use Rattle.erd_normal.proofs.Common.{key_named, keys_named, name_named, key_cmp_total, key_cmp_exact, Key, Sides, NameOneThing, an_id, Same, In, In-all, In-any}
+use Rattle.erd_normal.proofs.Common.{any_at, inl, inr, ◌⊎◌, map, codes, option_map, find, same_Some, options_total, option_cmp, no_items, get, role, entries_in}
+use Rattle.erd_normal.proofs.Common.{object_in, ObjectIn, and_then-Some, entries_at, class_of_object, objects_distinct, elections_distinct, held_key_in}
+use Rattle.erd_normal.proofs.Common.{no_identity_fault, find-Some, find-any, has_identifier, skeleton, values-placed_entries, election_stands, stands}
+use Rattle.erd_normal.proofs.Common.{contest_selections, options_exact, equal_keys, equal_names, election_key_of, SelectionRecord, ObjectRecord, NameParts}
+use Rattle.erd_normal.proofs.Common.{Placed, placed_entries, report_of, elections, contests, selections_of_contest, objects, plain_member, selection_record}
+use Rattle.erd_normal.proofs.Common.{selection_map, member_value, member_of_class, object_record, record_in_election, placed_record, placed_with_key}
+use Rattle.erd_normal.proofs.Common.{records_of, name_of, name_cmp, name_cmp_total, Ordering, IsTotalOrder, In-flat_map, In-flat_map_from, In-map}
 use Rattle.erd_check.proofs.Order.{In-filter_map}
 use Rattle.erd_normal.proofs.canonical.NormalKeys.{first_reference, first_value, names_accepted, reference_entry, value_entry, selections_distinct}
 use Rattle.erd_normal.proofs.lists.Matched.{Matched, kept_has, matched_back, matched_on, matched_within, find_values}
@@ -22,17 +35,20 @@ pub record MeanOne (π : Preference) (t u : Data) : Type 0 where
 -- key
 pub record TextsTied (π : Preference) (t u : Data) (m : Sides) : Type 0 where
   pub objects : (f : Family) (a b : List ℕ) (k : Key) → has_keys f ≡ true → key_named π t f a ≡ Some k → key_named π u f b ≡ Some k → NameOneThing m a b
-  pub selections : (c c' : List ℕ) (x y : Data) (k : Key) (a b : List ℕ) → owner t family.Contest c ≡ Some x → owner u family.Contest c' ≡ Some y → key_of π x ≡ Some k → key_of π y ≡ Some k
-      → is_selection_in x a ≡ true → is_selection_in y b ≡ true → name_named π t a ≡ name_named π u b → NameOneThing m a b
+  pub selections : (c c' : List ℕ) (x y : Data) (k : Key) (a b : List ℕ) → owner t family.Contest c ≡ Some x → owner u family.Contest c' ≡ Some y → key_of π x
+      ≡ Some k → key_of π y ≡ Some k → is_selection_in x a ≡ true → is_selection_in y b ≡ true → name_named π t a ≡ name_named π u b → NameOneThing m a b
 
 -- ---- sets that mean the same say the same: references that name one set of keys, and JSON values
 
 -- entries that a test tells apart are apart by a key, where entries with one key pass the test
-pub apart_by : {A K : Type 0} (test : A → A → Bool) (key : A → K) (xs : List A) → ((x y : A) → In x xs → In y xs → key x ≡ key y → test x y ≡ true) → IsDistinct test xs → ApartBy key xs
+pub apart_by : {A K : Type 0} (test : A → A → Bool) (key : A → K) (xs : List A) → ((x y : A) → In x xs → In y xs → key x ≡ key y → test x y ≡ true)
+    → IsDistinct test xs → ApartBy key xs
 unfolding IsDistinct
 apart_by test key [] tells d = tt
-apart_by test key (x ∷ xs) tells d =
-    (λ y i e. true≢false (sym (tells x y (inl refl) (inr i) e) ∙ In-all (λ z. test x z ≡ false) y xs d.0 i), apart_by test key xs (λ y z i j. tells y z (inr i) (inr j)) d.1)
+apart_by test key (x ∷ xs) tells d = (
+  λ y i e. true≢false (sym (tells x y (inl refl) (inr i) e) ∙ In-all (λ z. test x z ≡ false) y xs d.0 i),
+  apart_by test key xs (λ y z i j. tells y z (inr i) (inr j)) d.1,
+)
 
 -- ---- references
 
@@ -58,7 +74,8 @@ module _ (π : Preference) (t : Data) (accepted : IsAccepted π t) (f : Family) 
 
   module _ (r : Bool) (ds : Items) (w : Within t (asked (Member (kind.Many f) r) (array ds))) where
     pub reference_named : (d : Data) → In d (list_of_items ds) → NamedBy π t f d
-    reference_named d h = let p = list_of_items-place ds d h in named_by d (unrepeated_reference π t accepted f d (is_repeated ds p.0 d) (reference_entry t f r ds w p.0 d p.1))
+    reference_named d h = let p = list_of_items-place ds d h in
+        named_by d (unrepeated_reference π t accepted f d (is_repeated ds p.0 d) (reference_entry t f r ds w p.0 d p.1))
 
     pub references_apart : ApartBy (entry_key π t f) (list_of_items ds)
     references_apart =
@@ -73,11 +90,13 @@ module _ (π : Preference) (t : Data) (accepted : IsAccepted π t) (f : Family) 
             ap₂ is_same_json (b.is ∙ ap string one) a.is ∙ text_itself a.text
 
 -- each of the one set has its fellow in the other
-fellow : (π : Preference) (t u : Data) (f : Family) (ds es : List Data) → key_set (keys_named π t f ds) ≡ key_set (keys_named π u f es) → (x : Data) → In x ds → NamedBy π t f x → (y : Data) × In y es × (entry_key π t f x ≡ entry_key π u f y)
+fellow : (π : Preference) (t u : Data) (f : Family) (ds es : List Data) → key_set (keys_named π t f ds) ≡ key_set (keys_named π u f es) → (x : Data) → In x ds
+    → NamedBy π t f x → (y : Data) × In y es × (entry_key π t f x ≡ entry_key π u f y)
 fellow π t u f ds es same x h n =
     let e : entry_key π t f x ≡ Some n.key = ap (entry_key π t f) n.is ∙ n.named in
     let there : list_any (λ l. is_eq (key_cmp l n.key)) (keys_named π u f es) ≡ true =
-    sym (ap (λ set. set n.key) same) ∙ any_at (λ l. is_eq (key_cmp l n.key)) n.key (keys_named π t f ds) (In-filter_map (entry_key π t f) x n.key ds h e) (ap is_eq (tied_itself key_cmp_total n.key)) in
+    sym (ap (λ set. set n.key) same) ∙ any_at (λ l. is_eq (key_cmp l n.key)) n.key (keys_named π t f ds) (In-filter_map (entry_key π t f) x n.key ds h e)
+    (ap is_eq (tied_itself key_cmp_total n.key)) in
     let l = In-any (λ l. is_eq (key_cmp l n.key)) (keys_named π u f es) there in
     let y = kept_has (entry_key π u f) l.0 es l.1 in
     (y.0, y.1, e ∙ ap Some (sym (key_cmp_exact l.0 n.key ((Equal-is (key_cmp l.0 n.key)).0 l.2))) ∙ sym y.2)
@@ -85,41 +104,56 @@ fellow π t u f ds es same x h n =
 -- sets of references that name one set of keys are matched
 pub keys_matched : (π : Preference) (t u : Data) → IsAccepted π t → IsAccepted π u → (f : Family) → has_keys f ≡ true → (r r' : Bool) (ds es : Items)
     → Within t (asked (Member (kind.Many f) r) (array ds)) → Within u (asked (Member (kind.Many f) r') (array es))
-    → key_set (keys_named π t f (list_of_items ds)) ≡ key_set (keys_named π u f (list_of_items es)) → Matched (λ x y. entry_key π t f x ≡ entry_key π u f y) (list_of_items ds) (list_of_items es)
+    → key_set (keys_named π t f (list_of_items ds)) ≡ key_set (keys_named π u f (list_of_items es)) → Matched (λ x y. entry_key π t f x ≡ entry_key π u f y)
+    (list_of_items ds) (list_of_items es)
 keys_matched π t u accepted accepted' f keyed r r' ds es w w' same =
-    matched_by_keys (entry_key π t f) (entry_key π u f) (list_of_items ds) (list_of_items es) (references_apart π t accepted f keyed r ds w) (references_apart π u accepted' f keyed r' es w')
+    matched_by_keys (entry_key π t f) (entry_key π u f) (list_of_items ds) (list_of_items es) (references_apart π t accepted f keyed r ds w)
+    (references_apart π u accepted' f keyed r' es w')
     (λ x i. fellow π t u f (list_of_items ds) (list_of_items es) same x i (reference_named π t accepted f keyed r ds w x i))
-    (λ y j. let z = fellow π u t f (list_of_items es) (list_of_items ds) (sym same) y j (reference_named π u accepted' f keyed r' es w' y j) in (z.0, z.1, sym z.2))
+    (λ y j. let z = fellow π u t f (list_of_items es) (list_of_items ds) (sym same) y j (reference_named π u accepted' f keyed r' es w' y j) in
+    (z.0, z.1, sym z.2))
 
 module _ (π : Preference) (t u : Data) (m : Sides) (accepted : IsAccepted π t) (accepted' : IsAccepted π u) (tied : TextsTied π t u m) where
   -- two references
-  pub reference_says : (f : Family) → has_keys f ≡ true → (d e : Data) → NamedBy π t f d → NamedBy π u f e → entry_key π t f d ≡ entry_key π u f e → Same m (Some (Reference f)) d e
+  pub reference_says : (f : Family) → has_keys f ≡ true → (d e : Data) → NamedBy π t f d → NamedBy π u f e → entry_key π t f d ≡ entry_key π u f e
+      → Same m (Some (Reference f)) d e
   reference_says f keyed d e a b same =
       let keys : Some a.key ≡ Some b.key = sym (ap (entry_key π t f) a.is ∙ a.named) ∙ same ∙ (ap (entry_key π u f) b.is ∙ b.named) in
       subst (λ x. Same m (Some (Reference f)) x e) (sym a.is)
       (subst (Same m (Some (Reference f)) (string a.text)) (sym b.is) (an_id refl (tied.objects f a.text b.text a.key keyed a.named (b.named ∙ sym keys))))
 
   -- and two sets of them
-  pub references_matched : (f : Family) → has_keys f ≡ true → (r r' : Bool) (ds es : Items) → Within t (asked (Member (kind.Many f) r) (array ds)) → Within u (asked (Member (kind.Many f) r') (array es))
-      → key_set (keys_named π t f (list_of_items ds)) ≡ key_set (keys_named π u f (list_of_items es)) → Matched (Same m (Some (Reference f))) (list_of_items ds) (list_of_items es)
+  pub references_matched : (f : Family) → has_keys f ≡ true → (r r' : Bool) (ds es : Items) → Within t (asked (Member (kind.Many f) r) (array ds))
+      → Within u (asked (Member (kind.Many f) r') (array es))
+      → key_set (keys_named π t f (list_of_items ds)) ≡ key_set (keys_named π u f (list_of_items es)) → Matched (Same m (Some (Reference f)))
+      (list_of_items ds) (list_of_items es)
   references_matched f keyed r r' ds es w w' same =
-      matched_within_both (Same m (Some (Reference f))) (λ x y i j e. reference_says f keyed x y (reference_named π t accepted f keyed r ds w x i) (reference_named π u accepted' f keyed r' es w' y j) e)
+      matched_within_both (Same m (Some (Reference f))) (λ x y i j e. reference_says f keyed x y (reference_named π t accepted f keyed r ds w x i)
+      (reference_named π u accepted' f keyed r' es w' y j) e)
       (keys_matched π t u accepted accepted' f keyed r r' ds es w w' same)
 
 -- ---- JSON values
 
-module _ (π : Preference) (t : Data) (accepted : IsAccepted π t) (k : MemberKind) (r : Bool) (o : Role) (ds : Items) (w : Within t (asked (Member k r) (array ds))) (entries : entry_want (Member k r) ≡ Some (Object o))
+module _ (π : Preference) (t : Data) (accepted : IsAccepted π t) (k : MemberKind) (r : Bool) (o : Role) (ds : Items)
+    (w : Within t (asked (Member k r) (array ds))) (entries : entry_want (Member k r) ≡ Some (Object o))
     (compared : is_compared_set (Member k r) ≡ true) (simple : (c : Class) → role_of_class c ≡ o → is_simple_class c ≡ true) (trees : AreTrees ds) where
   pub values_sound : AreSound (list_of_items ds)
   values_sound d h =
       let p = list_of_items-place ds d h in
-      let tree : IsTree d = list_of_items-tree ds d trees h in
-      (tree, entry_itself t (no_shape_fault π t accepted) o d simple tree (unrepeated t (no_shape_fault π t accepted) (Object o) d (is_compared_set (Member k r) && is_repeated ds p.0 d) refl (value_entry t k r o ds w entries p.0 d p.1)))
+      let tree : IsTree d = list_of_items-tree ds d trees h in (
+        tree,
+        entry_itself t (no_shape_fault π t accepted) o d simple tree
+            (unrepeated t (no_shape_fault π t accepted) (Object o) d (is_compared_set (Member k r) && is_repeated ds p.0 d) refl
+            (value_entry t k r o ds w entries p.0 d p.1)),
+      )
 
   pub values_apart : ApartBy itself (list_of_items ds)
   values_apart =
       apart_by (λ d e. is_same_json e d) itself (list_of_items ds) (λ x y i j e. ap (λ z. is_same_json z x) (sym e) ∙ (values_sound x i).1)
-      (unrepeated_distinct ds (λ i d e. first_value π t accepted (Object o) d (is_repeated ds i d) (subst (λ b. Within t (record { want = Object o; value = d; repeated = b && is_repeated ds i d })) compared (value_entry t k r o ds w entries i d e)) (λ h. refl)))
+      (unrepeated_distinct ds
+      (λ i d e. first_value π t accepted (Object o) d (is_repeated ds i d)
+      (subst (λ b. Within t (record { want = Object o; value = d; repeated = b && is_repeated ds i d })) compared (value_entry t k r o ds w entries i d e))
+      (λ h. refl)))
 
 -- ---- lists that have the same record at each key are matched by their keys
 
@@ -145,13 +179,15 @@ record_for test key value xs k = option_and_then value (find (λ x. test (key x)
 
 module _ {K R : Type 0} (test : K → K → Bool) (exact : (k l : K) → test k l ≡ true → k ≡ l) (itself : (k : K) → test k k ≡ true) where
   -- at the key of an entry stands its record
-  record_itself : {A : Type 0} (key : A → K) (value : A → Option R) (xs : List A) → ApartBy key xs → (x : A) → In x xs → record_for test key value xs (key x) ≡ value x
+  record_itself : {A : Type 0} (key : A → K) (value : A → Option R) (xs : List A) → ApartBy key xs → (x : A) → In x xs
+      → record_for test key value xs (key x) ≡ value x
   record_itself key value xs apart x i =
       let f = find-any (λ y. test (key y) (key x)) xs (any_at (λ y. test (key y) (key x)) x xs i (itself (key x))) in
       ap (option_and_then value) (f.1 ∙ ap Some (apart_one key xs apart f.0 x f.3 i (exact (key f.0) (key x) f.2)))
 
   -- where a record stands, an entry has the key
-  entry_for : {A : Type 0} (key : A → K) (value : A → Option R) (xs : List A) (k : K) (r : R) → record_for test key value xs k ≡ Some r → (x : A) × In x xs × (key x ≡ k)
+  entry_for : {A : Type 0} (key : A → K) (value : A → Option R) (xs : List A) (k : K) (r : R) → record_for test key value xs k ≡ Some r → (x : A)
+      × In x xs × (key x ≡ k)
   entry_for key value xs k r e =
       let s = and_then-Some value (find (λ x. test (key x) k) xs) r e in
       let f = find-Some (λ x. test (key x) k) xs s.0 s.1 in
@@ -165,15 +201,16 @@ module _ {K R : Type 0} (test : K → K → Bool) (exact : (k l : K) → test k 
     abbrev AgreeAt : K → Type 0
     AgreeAt k = record_for test key value xs k ≡ record_for test key' value' ys k
 
-    pub records_matched : ApartBy key xs → ApartBy key' ys → Recorded value xs → Recorded value' ys → ((x : A) → In x xs → AgreeAt (key x)) → ((y : B) → In y ys → AgreeAt (key' y))
-        → Matched (λ x y. (key x ≡ key' y) × (value x ≡ value' y)) xs ys
+    pub records_matched : ApartBy key xs → ApartBy key' ys → Recorded value xs → Recorded value' ys → ((x : A) → In x xs → AgreeAt (key x))
+        → ((y : B) → In y ys → AgreeAt (key' y)) → Matched (λ x y. (key x ≡ key' y) × (value x ≡ value' y)) xs ys
     records_matched apart apart' known known' there back =
         matched_within_both (λ x y. (key x ≡ key' y) × (value x ≡ value' y)) (λ x y i j e. (
           e,
           sym (record_itself key value xs apart x i) ∙ there x i ∙ ap (record_for test key' value' ys) e ∙ record_itself key' value' ys apart' y j,
         ))
         (matched_by_keys key key' xs ys apart apart'
-        (λ x i. let r = known x i in let y = entry_for key' value' ys (key x) r.0 (sym (there x i) ∙ record_itself key value xs apart x i ∙ r.1) in (y.0, y.1, sym y.2))
+        (λ x i. let r = known x i in let y = entry_for key' value' ys (key x) r.0 (sym (there x i) ∙ record_itself key value xs apart x i ∙ r.1) in
+        (y.0, y.1, sym y.2))
         (λ y j. let r = known' y j in entry_for key value xs (key' y) r.0 (back y j ∙ record_itself key' value' ys apart' y j ∙ r.1)))
 
 -- ---- the record of an object with the key of the election that holds it says both apart
@@ -182,12 +219,17 @@ abbrev pub record_at : Preference → Data → Family → Placed → Option Obje
 record_at π t f o = object_record π t (role.OfFamily f) o.value
 
 -- an object of a family has a record, without a member `ElectionId`
-pub has_record : (π : Preference) (t : Data) → IsAccepted π t → (f : Family) (o : Placed) → In o (objects f t) → (r : ObjectRecord) × (record_at π t f o ≡ Some r) × (r.members (codes "ElectionId") ≡ None)
+pub has_record : (π : Preference) (t : Data) → IsAccepted π t → (f : Family) (o : Placed) → In o (objects f t) → (r : ObjectRecord)
+    × (record_at π t f o ≡ Some r) × (r.members (codes "ElectionId") ≡ None)
 has_record π t accepted f o h =
-    let c = class_within π t accepted (role.OfFamily f) o.value (record { place = o.place; is = stands π t accepted f o h }) in
-    (record { class = c.0; members = member_of_class π t o.value c.0 }, record_with-Some (member_of_class π t o.value) (role.OfFamily f) o.value c.0 c.1, no_election_id π t o.value c.0)
+    let c = class_within π t accepted (role.OfFamily f) o.value (record { place = o.place; is = stands π t accepted f o h }) in (
+      record { class = c.0; members = member_of_class π t o.value c.0 },
+      record_with-Some (member_of_class π t o.value) (role.OfFamily f) o.value c.0 c.1,
+      no_election_id π t o.value c.0,
+    )
 
-pub records_of-keyed : (π : Preference) (t : Data) (f : Family) (k : Key) → has_keys f ≡ true → records_of π t f k ≡ option_and_then (placed_record π t f) (placed_with_key π t f k)
+pub records_of-keyed : (π : Preference) (t : Data) (f : Family) (k : Key) → has_keys f ≡ true → records_of π t f k ≡ option_and_then (placed_record π t f)
+    (placed_with_key π t f k)
 records_of-keyed π t family.Selection k h = cc
 records_of-keyed π t d k h = refl
 
@@ -195,7 +237,8 @@ records_of-keyed π t d k h = refl
 abbrev pub SameRecord : Preference → Data → Data → Family → Placed → Placed → Type 0
 SameRecord π t u f o p = (record_at π t f o ≡ record_at π u f p) × (election_key_of π t o ≡ election_key_of π u p)
 
-pub records_apart : (π : Preference) (t u : Data) → IsAccepted π t → IsAccepted π u → (f : Family) (o p : Placed) → In o (objects f t) → In p (objects f u) → placed_record π t f o ≡ placed_record π u f p → SameRecord π t u f o p
+pub records_apart : (π : Preference) (t u : Data) → IsAccepted π t → IsAccepted π u → (f : Family) (o p : Placed) → In o (objects f t) → In p (objects f u)
+    → placed_record π t f o ≡ placed_record π u f p → SameRecord π t u f o p
 records_apart π t u accepted accepted' f o p h k e =
     let a = has_record π t accepted f o h in
     let b = has_record π u accepted' f p k in
@@ -223,11 +266,14 @@ pub record SelectionsAlike (π : Preference) (t u : Data) (o p : Placed) : Type 
   pub name : name_of π t o.value ≡ name_of π u p.value
   pub record_same : selection_record π t o.value ≡ selection_record π u p.value
 
-selection_within : (π : Preference) (t : Data) → IsAccepted π t → (c o : Placed) → In c (objects family.Contest t) → In o (selections_of_contest c) → Within t (asked (Object (role.OfFamily family.Selection)) o.value)
-selection_within π t accepted c o h k = record { place = o.place; is = stands π t accepted family.Selection o (In-flat_map selections_of_contest o c (contests t) h k) }
+selection_within : (π : Preference) (t : Data) → IsAccepted π t → (c o : Placed) → In c (objects family.Contest t) → In o (selections_of_contest c)
+    → Within t (asked (Object (role.OfFamily family.Selection)) o.value)
+selection_within π t accepted c o h k =
+    record { place = o.place; is = stands π t accepted family.Selection o (In-flat_map selections_of_contest o c (contests t) h k) }
 
 -- a selection of an accepted report has a name
-pub selection_name : (π : Preference) (t : Data) → IsAccepted π t → (c o : Placed) → In c (objects family.Contest t) → In o (selections_of_contest c) → (n : NameParts) × (name_of π t o.value ≡ Some n)
+pub selection_name : (π : Preference) (t : Data) → IsAccepted π t → (c o : Placed) → In c (objects family.Contest t) → In o (selections_of_contest c)
+    → (n : NameParts) × (name_of π t o.value ≡ Some n)
 selection_name π t accepted c o h k = has_name π t accepted o.value (selection_within π t accepted c o h k)
 
 -- ---- keys and names
@@ -267,7 +313,8 @@ module _ (π : Preference) (t : Data) (accepted : IsAccepted π t) where
   elections_apart =
       apart_map (λ e. e.value) (key_of π) (elections t)
       (subst (ApartBy (key_of π)) (sym (values-placed_entries (codes "Election") (report_of t)))
-      (apart_by (λ d e. is_same_key (key_of π d) (key_of π e)) (key_of π) (entries_at (codes "Election") t) (λ d e i j same. tied key_cmp key_cmp_total (key_of π d) (key_of π e) same)
+      (apart_by (λ d e. is_same_key (key_of π d) (key_of π e)) (key_of π) (entries_at (codes "Election") t)
+      (λ d e i j same. tied key_cmp key_cmp_total (key_of π d) (key_of π e) same)
       (elections_distinct π t (no_identity_fault π t accepted))))
 
   election_recorded : (e : Placed) → In e (elections t) → (r : ObjectRecord) × (object_record π t role.Election e.value ≡ Some r)
@@ -281,20 +328,23 @@ module _ (π : Preference) (t : Data) (accepted : IsAccepted π t) where
 
     -- no two objects of a family have one key
     pub family_apart : ApartBy (key_at π) (objects f t)
-    family_apart = apart_by one_key (key_at π) (objects f t) (λ o p i j same. tied key_cmp key_cmp_total (key_at π o) (key_at π p) same) (objects_distinct π t (no_identity_fault π t accepted) f keyed)
+    family_apart = apart_by one_key (key_at π) (objects f t) (λ o p i j same. tied key_cmp key_cmp_total (key_at π o) (key_at π p) same)
+        (objects_distinct π t (no_identity_fault π t accepted) f keyed)
 
     -- nor do two that one election holds
     held_apart : (name : List ℕ) → InElections f name → (e : Placed) → In e (elections t) → ApartBy (key_at π) (placed_entries name e)
     held_apart name home e h =
         apart_by one_key (key_at π) (placed_entries name e) (λ o p i j same. tied key_cmp key_cmp_total (key_at π o) (key_at π p) same)
-        (part_distinct one_key (placed_entries name e) (objects f t) (subst (IsPart (placed_entries name e)) (sym (home.are t)) (part_flat (placed_entries name) (elections t) e h))
+        (part_distinct one_key (placed_entries name e) (objects f t)
+        (subst (IsPart (placed_entries name e)) (sym (home.are t)) (part_flat (placed_entries name) (elections t) e h))
         (objects_distinct π t (no_identity_fault π t accepted) f keyed))
 
     held_stands : (name : List ℕ) → InElections f name → (e o : Placed) → In e (elections t) → In o (placed_entries name e) → In o (objects f t)
     held_stands name home e o h i = subst (λ os. In o os) (sym (home.are t)) (In-flat_map (placed_entries name) o e (elections t) h i)
 
     -- what stands in an election of this key is held by it
-    held_by : (name : List ℕ) → InElections f name → (e o : Placed) → In e (elections t) → In o (objects f t) → election_key_of π t o ≡ key_at π e → In o (placed_entries name e)
+    held_by : (name : List ℕ) → InElections f name → (e o : Placed) → In e (elections t) → In o (objects f t) → election_key_of π t o ≡ key_at π e
+        → In o (placed_entries name e)
     held_by name home e o h i same =
         let x = In-flat_map_from (placed_entries name) (elections t) o (subst (λ os. In o os) (home.are t) i) in
         let one : x.0 ≡ e = apart_one (key_at π) (elections t) elections_apart x.0 e x.1 h (sym (held_key_in π t name x.0 o x.1 x.2) ∙ same) in
@@ -307,14 +357,16 @@ module _ (π : Preference) (t : Data) (accepted : IsAccepted π t) where
     -- no two selections of a contest have one name
     selections_apart : ApartBy (name_at π t) (selections_of_contest contest)
     selections_apart =
-        apart_by (λ o p. is_same_name (name_at π t o) (name_at π t p)) (name_at π t) (selections_of_contest contest) (λ o p i j same. tied name_cmp name_cmp_total (name_at π t o) (name_at π t p) same)
+        apart_by (λ o p. is_same_name (name_at π t o) (name_at π t p)) (name_at π t) (selections_of_contest contest)
+        (λ o p i j same. tied name_cmp name_cmp_total (name_at π t o) (name_at π t p) same)
         (selections_distinct π t accepted contest c)
 
     selection_recorded : (o : Placed) → In o (selections_of_contest contest) → (r : SelectionRecord) × (selection_record π t o.value ≡ Some r)
     selection_recorded o h = has_selection_record π t accepted o.value (selection_within π t accepted contest o c h)
 
     -- the record of the first selection of this name stands in the map
-    selection_mapped : (n : NameParts) → record_for is_same_name (name_at π t) (λ o. selection_record π t o.value) (selections_of_contest contest) (Some n) ≡ selection_map π t (entries_at list_name contest.value) n
+    selection_mapped : (n : NameParts) → record_for is_same_name (name_at π t) (λ o. selection_record π t o.value) (selections_of_contest contest) (Some n)
+        ≡ selection_map π t (entries_at list_name contest.value) n
     selection_mapped n =
         let test = λ (d : Data). is_same_name (name_of π t d) (Some n) in
         and_then_map (selection_record π t) (λ (o : Placed). o.value) (find (λ o. test o.value) (selections_of_contest contest))
@@ -322,11 +374,15 @@ module _ (π : Preference) (t : Data) (accepted : IsAccepted π t) where
         ∙ ap (λ ds. option_and_then (selection_record π t) (find test ds)) (values-placed_entries list_name contest)
 
     -- which is a member of the contest's record
-    map_recorded : (n : NameParts) → map_in (members_in (object_record π t (role.OfFamily family.Contest) contest.value) list_name) n ≡ selection_map π t (entries_at list_name contest.value) n
+    map_recorded : (n : NameParts) → map_in (members_in (object_record π t (role.OfFamily family.Contest) contest.value) list_name) n
+        ≡ selection_map π t (entries_at list_name contest.value) n
     map_recorded n =
         let d : Data = contest.value in
-        let o : ObjectIn t (role.OfFamily family.Contest) d = object_in t (no_shape_fault π t accepted) (role.OfFamily family.Contest) d (record { place = contest.place; is = stands π t accepted family.Contest contest c }) in
-        let among : class_of_object (role.OfFamily family.Contest) d ≡ Some o.class = ap (class_of_object (role.OfFamily family.Contest)) o.is_object ∙ o.at.among in
+        let o : ObjectIn t (role.OfFamily family.Contest) d =
+        object_in t (no_shape_fault π t accepted) (role.OfFamily family.Contest) d
+        (record { place = contest.place; is = stands π t accepted family.Contest contest c }) in
+        let among : class_of_object (role.OfFamily family.Contest) d ≡ Some o.class =
+        ap (class_of_object (role.OfFamily family.Contest)) o.is_object ∙ o.at.among in
         ap (λ r. map_in (members_in r list_name) n) (record_with-Some (member_of_class π t d) (role.OfFamily family.Contest) d o.class among)
         ∙ ap (λ k. map_in (member_value π t k (get list_name d) (plain_member π t d o.class list_name)) n) (contest_selections o.class o.role)
         ∙ map_of_value π t n (get list_name d)
@@ -335,7 +391,8 @@ module _ (π : Preference) (t u : Data) (both : MeanOne π t u) where
   pub elections_matched : Matched (ElectionsAlike π t u) (elections t) (elections u)
   elections_matched =
       matched_within (ElectionsAlike π t u) (λ d e i r. record { key = r.0; record_same = r.1 })
-      (records_matched is_same_key (options_exact key_cmp equal_keys) (λ k. tied key_cmp key_cmp_total k k refl) (key_at π) (key_at π) (λ e. object_record π t role.Election e.value) (λ e. object_record π u role.Election e.value) (elections t) (elections u)
+      (records_matched is_same_key (options_exact key_cmp equal_keys) (λ k. tied key_cmp key_cmp_total k k refl) (key_at π) (key_at π)
+      (λ e. object_record π t role.Election e.value) (λ e. object_record π u role.Election e.value) (elections t) (elections u)
       (elections_apart π t both.left) (elections_apart π u both.right) (election_recorded π t both.left) (election_recorded π u both.right)
       (λ e i. ap (λ m. m.elections (key_at π e)) both.same) (λ e i. ap (λ m. m.elections (key_at π e)) both.same))
 
@@ -343,32 +400,38 @@ module _ (π : Preference) (t u : Data) (both : MeanOne π t u) where
   recorded_alike : (f : Family) → has_keys f ≡ true → (k : Option Key) (l : Key) → k ≡ Some l
       → record_for is_same_key (key_at π) (placed_record π t f) (objects f t) k ≡ record_for is_same_key (key_at π) (placed_record π u f) (objects f u) k
   recorded_alike f keyed k l is =
-      subst (λ x. record_for is_same_key (key_at π) (placed_record π t f) (objects f t) x ≡ record_for is_same_key (key_at π) (placed_record π u f) (objects f u) x) (sym is)
+      subst (λ x. record_for is_same_key (key_at π) (placed_record π t f) (objects f t) x ≡ record_for is_same_key (key_at π) (placed_record π u f)
+      (objects f u) x) (sym is)
       (sym (records_of-keyed π t f l keyed) ∙ ap (λ m. m.objects f l) both.same ∙ records_of-keyed π u f l keyed)
 
   pub family_matched : (f : Family) → has_keys f ≡ true → Matched (ObjectsAlike π t u f) (objects f t) (objects f u)
   family_matched f keyed =
       matched_within_both (ObjectsAlike π t u f)
       (λ o p i j r. let parts = records_apart π t u both.left both.right f o p i j r.1 in record { key = r.0; record_same = parts.0; election = parts.1 })
-      (records_matched is_same_key (options_exact key_cmp equal_keys) (λ k. tied key_cmp key_cmp_total k k refl) (key_at π) (key_at π) (placed_record π t f) (placed_record π u f) (objects f t) (objects f u)
-      (family_apart π t both.left f keyed) (family_apart π u both.right f keyed) (object_recorded π t both.left f keyed) (object_recorded π u both.right f keyed)
+      (records_matched is_same_key (options_exact key_cmp equal_keys) (λ k. tied key_cmp key_cmp_total k k refl) (key_at π) (key_at π) (placed_record π t f)
+      (placed_record π u f) (objects f t) (objects f u)
+      (family_apart π t both.left f keyed) (family_apart π u both.right f keyed) (object_recorded π t both.left f keyed)
+      (object_recorded π u both.right f keyed)
       (λ o i. let k = has_identifier π t (no_identity_fault π t both.left) f o keyed i in recorded_alike f keyed (key_at π o) k.0 k.1)
       (λ o i. let k = has_identifier π u (no_identity_fault π u both.right) f o keyed i in recorded_alike f keyed (key_at π o) k.0 k.1))
 
   -- objects of a family with one key are alike
-  pub alike_by_key : (f : Family) → has_keys f ≡ true → (o p : Placed) → In o (objects f t) → In p (objects f u) → key_at π o ≡ key_at π p → ObjectsAlike π t u f o p
+  pub alike_by_key : (f : Family) → has_keys f ≡ true → (o p : Placed) → In o (objects f t) → In p (objects f u) → key_at π o ≡ key_at π p
+      → ObjectsAlike π t u f o p
   alike_by_key f keyed o p i j same =
       let m = matched_on o (family_matched f keyed) i in
       let one : m.0 ≡ p = apart_one (key_at π) (objects f u) (family_apart π u both.right f keyed) m.0 p m.1 j (sym m.2.key ∙ same) in
       subst (ObjectsAlike π t u f o) one m.2
 
   -- what two elections hold in their arrays of one name
-  pub held_matched : (f : Family) (name : List ℕ) → has_keys f ≡ true → InElections f name → (d e : Placed) → In d (elections t) → In e (elections u) → ElectionsAlike π t u d e
-      → Matched (ObjectsAlike π t u f) (placed_entries name d) (placed_entries name e)
+  pub held_matched : (f : Family) (name : List ℕ) → has_keys f ≡ true → InElections f name → (d e : Placed) → In d (elections t) → In e (elections u)
+      → ElectionsAlike π t u d e → Matched (ObjectsAlike π t u f) (placed_entries name d) (placed_entries name e)
   held_matched f name keyed home d e i j alike =
       matched_within_both (ObjectsAlike π t u f)
-      (λ o p h k same. alike_by_key f keyed o p (held_stands π t both.left f keyed name home d o i h) (held_stands π u both.right f keyed name home e p j k) same)
-      (matched_by_keys (key_at π) (key_at π) (placed_entries name d) (placed_entries name e) (held_apart π t both.left f keyed name home d i) (held_apart π u both.right f keyed name home e j)
+      (λ o p h k same. alike_by_key f keyed o p (held_stands π t both.left f keyed name home d o i h)
+      (held_stands π u both.right f keyed name home e p j k) same)
+      (matched_by_keys (key_at π) (key_at π) (placed_entries name d) (placed_entries name e) (held_apart π t both.left f keyed name home d i)
+      (held_apart π u both.right f keyed name home e j)
       (λ o h.
       let m = matched_on o (family_matched f keyed) (held_stands π t both.left f keyed name home d o i h) in
       (m.0, held_by π u both.right f keyed name home e m.0 j m.1 (sym m.2.election ∙ held_key_in π t name d o i h ∙ alike.key), m.2.key))
@@ -381,13 +444,16 @@ module _ (π : Preference) (t u : Data) (both : MeanOne π t u) where
       → Matched (SelectionsAlike π t u) (selections_of_contest o) (selections_of_contest p)
   selections_matched o p i j alike =
       matched_within (SelectionsAlike π t u) (λ x y h r. record { name = r.0; record_same = r.1 })
-      (records_matched is_same_name (options_exact name_cmp equal_names) (λ n. tied name_cmp name_cmp_total n n refl) (name_at π t) (name_at π u) (λ x. selection_record π t x.value) (λ x. selection_record π u x.value) (selections_of_contest o) (selections_of_contest p)
+      (records_matched is_same_name (options_exact name_cmp equal_names) (λ n. tied name_cmp name_cmp_total n n refl) (name_at π t) (name_at π u)
+      (λ x. selection_record π t x.value) (λ x. selection_record π u x.value) (selections_of_contest o) (selections_of_contest p)
       (selections_apart π t both.left o i) (selections_apart π u both.right p j) (selection_recorded π t both.left o i) (selection_recorded π u both.right p j)
-      (λ x h. let n = selection_name π t both.left o x i h in mapped_alike (name_at π t x) n.0 n.1) (λ y h. let n = selection_name π u both.right p y j h in mapped_alike (name_at π u y) n.0 n.1))
+      (λ x h. let n = selection_name π t both.left o x i h in mapped_alike (name_at π t x) n.0 n.1) (λ y h. let n = selection_name π u both.right p y j h in
+      mapped_alike (name_at π u y) n.0 n.1))
     where
-      mapped_alike : (m : Option NameParts) (n : NameParts) → m ≡ Some n → record_for is_same_name (name_at π t) (λ x. selection_record π t x.value) (selections_of_contest o) m
-          ≡ record_for is_same_name (name_at π u) (λ x. selection_record π u x.value) (selections_of_contest p) m
+      mapped_alike : (m : Option NameParts) (n : NameParts) → m ≡ Some n → record_for is_same_name (name_at π t) (λ x. selection_record π t x.value)
+          (selections_of_contest o) m ≡ record_for is_same_name (name_at π u) (λ x. selection_record π u x.value) (selections_of_contest p) m
       mapped_alike m n is =
-          subst (λ x. record_for is_same_name (name_at π t) (λ z. selection_record π t z.value) (selections_of_contest o) x ≡ record_for is_same_name (name_at π u) (λ z. selection_record π u z.value) (selections_of_contest p) x) (sym is)
+          subst (λ x. record_for is_same_name (name_at π t) (λ z. selection_record π t z.value) (selections_of_contest o) x ≡ record_for is_same_name
+          (name_at π u) (λ z. selection_record π u z.value) (selections_of_contest p) x) (sym is)
           (selection_mapped π t both.left o i n ∙ sym (map_recorded π t both.left o i n) ∙ ap (λ r. map_in (members_in r list_name) n) alike.record_same
           ∙ map_recorded π u both.right p j n ∙ sym (selection_mapped π u both.right p j n))

@@ -1,6 +1,11 @@
 -- The two functions of texts: an `@id` of the one report goes to that of the object with the same key, or of the selection with
 -- the same name of the contest with the same key.
-use Rattle.erd_normal.proofs.Common.{◌≡◌, ℕ, true, List, [], ◌∷◌, map, Some, None, codes, Option, find, flat_map, option_and_then, sym, refl, ap, ◌∙◌, subst, list_any, option_map_or, Data, families, Family, family, role, and_then-Some, Asked, asked, Object, no_identity_fault, find-Some, find-any, has_identifier, values-placed_entries, stands, one_object, one_keyed, one_named, has_id-Some, owner_is, owned_by, IsAccepted, has_keys, Preference, key_of, is_selection_in, Placed, contests, selections_of_contest, objects, id_of, has_id, owner, name_of, name_named, Sides, NameOneThing, Bool, ◌&&◌, is_some, unwrap_or, ap₂, and_parts, has_id-from, In, In-any, In-flat_map, In-from_contains, In-map_from, any_at, inl, inr}
+use Rattle.erd_normal.proofs.Common.{◌≡◌, ℕ, true, List, [], ◌∷◌, map, Some, None, codes, Option, find, flat_map, option_and_then, sym, refl, ap, ◌∙◌, subst}
+use Rattle.erd_normal.proofs.Common.{list_any, option_map_or, Data, families, Family, family, role, and_then-Some, Asked, asked, Object, no_identity_fault}
+use Rattle.erd_normal.proofs.Common.{find-Some, find-any, has_identifier, values-placed_entries, stands, one_object, one_keyed, one_named, has_id-Some}
+use Rattle.erd_normal.proofs.Common.{owner_is, owned_by, IsAccepted, has_keys, Preference, key_of, is_selection_in, Placed, contests, selections_of_contest}
+use Rattle.erd_normal.proofs.Common.{objects, id_of, has_id, owner, name_of, name_named, Sides, NameOneThing, Bool, ◌&&◌, is_some, unwrap_or, ap₂, and_parts}
+use Rattle.erd_normal.proofs.Common.{has_id-from, In, In-any, In-flat_map, In-from_contains, In-map_from, any_at, inl, inr}
 use Rattle.erd_normal.proofs.canonical.ContestSelections.{one_contest}
 use Rattle.erd_normal.proofs.lists.Lists.{is_family}
 use Rattle.erd_normal.proofs.lists.Matched.{Matched, matched_flat, Paired, none, more}
@@ -21,7 +26,8 @@ pub no_keys : (f : Family) → has_keys f ≡ true → f ≡ family.Selection �
 no_keys f keyed is = let h : has_keys family.Selection ≡ true = ap has_keys (sym is) ∙ keyed in cc
 
 -- an object has one counterpart
-pub one_counterpart : (π : Preference) (t u : Data) → IsAccepted π t → IsAccepted π u → (f : Family) (o p q : Placed) → In p (objects f u) → In q (objects f u) → Counterpart π t u f o p → Counterpart π t u f o q → p ≡ q
+pub one_counterpart : (π : Preference) (t u : Data) → IsAccepted π t → IsAccepted π u → (f : Family) (o p q : Placed) → In p (objects f u) → In q (objects f u)
+    → Counterpart π t u f o p → Counterpart π t u f o q → p ≡ q
 one_counterpart π t u accepted accepted' f o p q h k (by_key keyed a) (by_key keyed' b) =
     let i = has_identifier π u (no_identity_fault π u accepted') f p keyed h in one_keyed π u accepted' f p q i.0 keyed h k i.1 (sym b ∙ a ∙ i.1)
 one_counterpart π t u accepted accepted' f o p q h k (by_key keyed a) (by_name is c d i j keys l n names) = absurd (no_keys f keyed is)
@@ -29,26 +35,35 @@ one_counterpart π t u accepted accepted' f o p q h k (by_name is c d i j keys l
 one_counterpart π t u accepted accepted' f o p q h k (by_name is c d i j keys l n names) (by_name is' c' d' i' j' keys' l' n' names') =
     let contest : c ≡ c' = one_contest π t accepted c c' o i i' l l' in
     let key = has_identifier π u (no_identity_fault π u accepted') family.Contest d refl j in
-    let other : d ≡ d' = one_keyed π u accepted' family.Contest d d' key.0 refl j j' key.1 (sym keys' ∙ ap (λ (x : Placed). key_of π x.value) (sym contest) ∙ keys ∙ key.1) in
+    let other : d ≡ d' = one_keyed π u accepted' family.Contest d d' key.0 refl j j' key.1
+    (sym keys' ∙ ap (λ (x : Placed). key_of π x.value) (sym contest) ∙ keys ∙ key.1) in
     let name = selection_name π u accepted' d p j n in
     one_named π u accepted' d p q name.0 j n (subst (λ x. In q (selections_of_contest x)) (sym other) n') name.1 (sym names' ∙ names ∙ name.1)
 
 -- an object is of one family
 pub one_family : (π : Preference) (t : Data) → IsAccepted π t → (f g : Family) (o : Placed) → In o (objects f t) → In o (objects g t) → f ≡ g
 one_family π t accepted f g o h k =
-    let both : Some (asked (Object (role.OfFamily f)) o.value) ≡ Some (asked (Object (role.OfFamily g)) o.value) = sym (stands π t accepted f o h) ∙ stands π t accepted g o k in
+    let both : Some (asked (Object (role.OfFamily f)) o.value) ≡ Some (asked (Object (role.OfFamily g)) o.value) =
+    sym (stands π t accepted f o h) ∙ stands π t accepted g o k in
     let one : asked (Object (role.OfFamily f)) o.value ≡ asked (Object (role.OfFamily g)) o.value = cc in
     let wants : Object (role.OfFamily f) ≡ Object (role.OfFamily g) = ap (λ (a : Asked). a.want) one in
     cc
 
 -- the selection of a contest that a reference names
-pub selection_named : (π : Preference) (v : Data) → IsAccepted π v → (c : Placed) (r : List ℕ) → In c (objects family.Contest v) → is_selection_in c.value r ≡ true
+pub selection_named : (π : Preference) (v : Data) → IsAccepted π v → (c : Placed) (r : List ℕ) → In c (objects family.Contest v)
+    → is_selection_in c.value r ≡ true
     → (x : Placed) × In x (selections_of_contest c) × (id_of x.value ≡ Some r) × (name_named π v r ≡ name_of π v x.value)
 selection_named π v accepted c r h e =
-    let d = In-any (has_id r) (map (λ (o : Placed). o.value) (selections_of_contest c)) (ap (list_any (has_id r)) (values-placed_entries (codes "ContestSelection") c) ∙ e) in
+    let d = In-any (has_id r) (map (λ (o : Placed). o.value) (selections_of_contest c))
+    (ap (list_any (has_id r)) (values-placed_entries (codes "ContestSelection") c) ∙ e) in
     let x = In-map_from (λ (o : Placed). o.value) (selections_of_contest c) d.0 d.1 in
-    let id : id_of x.0.value ≡ Some r = ap id_of x.2 ∙ has_id-Some r d.0 d.2 in
-    (x.0, x.1, id, ap (option_and_then (name_of π v)) (owner_is π v accepted family.Selection x.0 r (In-flat_map selections_of_contest x.0 c (contests v) h x.1) id))
+    let id : id_of x.0.value ≡ Some r = ap id_of x.2 ∙ has_id-Some r d.0 d.2 in (
+      x.0,
+      x.1,
+      id,
+      ap (option_and_then (name_of π v))
+          (owner_is π v accepted family.Selection x.0 r (In-flat_map selections_of_contest x.0 c (contests v) h x.1) id),
+    )
 
 pub some_again : (o : Option (List ℕ)) → is_some o ≡ true → o ≡ Some (unwrap_or o [])
 some_again None h = cc
@@ -72,7 +87,8 @@ couples_agree : (π : Preference) (t u : Data) → IsAccepted π t → IsAccepte
 couples_agree π t u accepted accepted' c d e =
     let one : c.one ≡ d.one = one_object π t accepted c.family d.family c.one d.one c.text c.one_stands d.one_stands c.is (d.is ∙ ap Some (sym e)) in
     let family : d.family ≡ c.family = one_family π t accepted d.family c.family d.one d.one_stands (subst (λ z. In z (objects c.family t)) one c.one_stands) in
-    let other : c.other ≡ d.other = one_counterpart π t u accepted accepted' c.family c.one c.other d.other c.other_stands (subst (λ f. In d.other (objects f u)) family d.other_stands) c.related
+    let other : c.other ≡ d.other = one_counterpart π t u accepted accepted' c.family c.one c.other d.other c.other_stands
+    (subst (λ f. In d.other (objects f u)) family d.other_stands) c.related
     (subst (λ o. Counterpart π t u c.family o d.other) (sym one) (subst (λ f. Counterpart π t u f d.one d.other) family d.related)) in
     let texts : Some c.other_text ≡ Some d.other_text = sym c.other_is ∙ ap (λ (x : Placed). id_of x.value) other ∙ d.other_is in
     cc
@@ -100,7 +116,8 @@ module _ (π : Preference) (t u : Data) (both : MeanOne π t u) where
     pub related : Counterpart π t u f o p
 
   keyed_fellows : (f : Family) → has_keys f ≡ true → Matched (Fellows f) (objects f t) (objects f u)
-  keyed_fellows f keyed = matched_within_both (Fellows f) (λ x y i j r. record { one_stands = i; other_stands = j; related = by_key keyed r.key }) (family_matched π t u both f keyed)
+  keyed_fellows f keyed = matched_within_both (Fellows f) (λ x y i j r. record { one_stands = i; other_stands = j; related = by_key keyed r.key })
+      (family_matched π t u both f keyed)
 
   record Contests (c d : Placed) : Type 0 where
     one_stands : In c (objects family.Contest t)
@@ -136,7 +153,8 @@ module _ (π : Preference) (t u : Data) (both : MeanOne π t u) where
   pairs : List Pair
   pairs = flat_map (λ f. pairs_in f (fellows f).paired) families
 
-  pair_in : (f : Family) {xs ys : List Placed} (h : Paired (Fellows f) xs ys) (o : Placed) → In o xs → (p : Pair) × In p (pairs_in f h) × (p.one ≡ o) × (p.family ≡ f)
+  pair_in : (f : Family) {xs ys : List Placed} (h : Paired (Fellows f) xs ys) (o : Placed) → In o xs → (p : Pair) × In p (pairs_in f h)
+      × (p.one ≡ o) × (p.family ≡ f)
   unfolding pairs_in
   pair_in f none o h = elim h [ ]
   pair_in f (more r rest) o (inl e) = (_, inl refl, e, refl)
@@ -183,7 +201,8 @@ module _ (π : Preference) (t u : Data) (both : MeanOne π t u) where
     abbrev pub sides : Data → Data → Sides
     sides l r = record { left = l; right = r; there = there; back = back }
 
-    looked_up : (key other : Pair → Placed) → ((p q : Pair) (s a b : List ℕ) → id_of (key p).value ≡ Some s → id_of (key q).value ≡ Some s → id_of (other p).value ≡ Some a → id_of (other q).value ≡ Some b → a ≡ b)
+    looked_up : (key other : Pair → Placed) → ((p q : Pair) (s a b : List ℕ) → id_of (key p).value ≡ Some s → id_of (key q).value ≡ Some s
+        → id_of (other p).value ≡ Some a → id_of (other q).value ≡ Some b → a ≡ b)
         → (p : Pair) → In p pairs → (s a : List ℕ) → id_of (key p).value ≡ Some s → id_of (other p).value ≡ Some a → a ≡ lookup key other s
     looked_up key other agree p h s a is is' =
         let x = find-any (passes key other s) pairs (any_at (passes key other s) p pairs h (ap₂ ◌&&◌ (has_id-from s (key p).value is) (ap is_some is'))) in
@@ -192,7 +211,8 @@ module _ (π : Preference) (t u : Data) (both : MeanOne π t u) where
         ∙ sym (ap (λ o. option_map_or (λ q. unwrap_or (id_of (other q).value) []) o default) x.1)
 
     -- a text that is found is of a pair, if it is not the default
-    pair_found : (key other : Pair → Placed) (s s' : List ℕ) → s' ≡ lookup key other s → (s' ≡ default → ⊥) → (p : Pair) × (id_of (key p).value ≡ Some s) × (id_of (other p).value ≡ Some s')
+    pair_found : (key other : Pair → Placed) (s s' : List ℕ) → s' ≡ lookup key other s → (s' ≡ default → ⊥) → (p : Pair) × (id_of (key p).value ≡ Some s)
+        × (id_of (other p).value ≡ Some s')
     pair_found key other s s' e apart = at (find (passes key other s) pairs) refl e
       where
         at : (o : Option Pair) → find (passes key other s) pairs ≡ o → s' ≡ option_map_or (λ p. unwrap_or (id_of (other p).value) []) o default
@@ -203,17 +223,21 @@ module _ (π : Preference) (t u : Data) (both : MeanOne π t u) where
             (p, has_id-Some s (key p).value x.0, some_again (id_of (other p).value) x.1 ∙ ap Some (sym g))
 
     -- the `@id`s of an object and its counterpart stand for one another
-    pub ids_stand : (l r : Data) (f : Family) (o p : Placed) (a b : List ℕ) → In o (objects f t) → In p (objects f u) → Counterpart π t u f o p → id_of o.value ≡ Some a → id_of p.value ≡ Some b → NameOneThing (sides l r) a b
+    pub ids_stand : (l r : Data) (f : Family) (o p : Placed) (a b : List ℕ) → In o (objects f t) → In p (objects f u) → Counterpart π t u f o p → id_of o.value
+        ≡ Some a → id_of p.value ≡ Some b → NameOneThing (sides l r) a b
     unfolding there back
     ids_stand l r f o p a b h k related is is' =
         let x = pair_of f o h in
-        let same : x.0.other ≡ p = one_counterpart π t u both.left both.right f o x.0.other p (subst (λ g. In x.0.other (objects g u)) x.3 x.0.fellows.other_stands) k
+        let same : x.0.other ≡ p = one_counterpart π t u both.left both.right f o x.0.other p
+        (subst (λ g. In x.0.other (objects g u)) x.3 x.0.fellows.other_stands) k
         (subst (λ g. Counterpart π t u g o x.0.other) x.3 (subst (λ z. Counterpart π t u x.0.family z x.0.other) x.2 x.0.fellows.related)) related in
         let left : id_of x.0.one.value ≡ Some a = ap (λ (z : Placed). id_of z.value) x.2 ∙ is in
         let right : id_of x.0.other.value ≡ Some b = ap (λ (z : Placed). id_of z.value) same ∙ is' in (
-          looked_up (λ q. q.one) (λ q. q.other) (λ v w s c d e g i j. couples_agree π t u both.left both.right (couple v s c e i) (couple w s d g j) refl) x.0 x.1 a b left right,
+          looked_up (λ q. q.one) (λ q. q.other) (λ v w s c d e g i j. couples_agree π t u both.left both.right (couple v s c e i) (couple w s d g j) refl)
+              x.0 x.1 a b left right,
           looked_up (λ q. q.other) (λ q. q.one)
-              (λ v w s c d e g i j. couples_agree π u t both.right both.left (turned_couple π t u (couple v c s i e)) (turned_couple π t u (couple w d s j g)) refl) x.0 x.1 b a right left,
+              (λ v w s c d e g i j. couples_agree π u t both.right both.left (turned_couple π t u (couple v c s i e)) (turned_couple π t u (couple w d s j g))
+              refl) x.0 x.1 b a right left,
         )
 
     -- a text that comes back is of a couple, if it is not the default
@@ -235,12 +259,14 @@ module _ (π : Preference) (t u : Data) (both : MeanOne π t u) where
           let y = and_then-Some (key_of π) (owner u f b) k g in
           let o = owned_by t f a x.0 x.1 in
           let p = owned_by u f b y.0 y.1 in
-          ids_stand l r f o.0 p.0 a b o.1 p.1 (by_key keyed (ap (key_of π) o.2 ∙ x.2 ∙ sym y.2 ∙ sym (ap (key_of π) p.2))) (ap id_of o.2 ∙ o.3) (ap id_of p.2 ∙ p.3);
+          ids_stand l r f o.0 p.0 a b o.1 p.1 (by_key keyed (ap (key_of π) o.2 ∙ x.2 ∙ sym y.2 ∙ sym (ap (key_of π) p.2)))
+          (ap id_of o.2 ∙ o.3) (ap id_of p.2 ∙ p.3);
       selections = λ c d x y k a b e g i j h l' names.
           let o = owned_by t family.Contest c x e in
           let p = owned_by u family.Contest d y g in
           let s = selection_named π t both.left o.0 a o.1 (ap (λ z. is_selection_in z a) o.2 ∙ h) in
           let s' = selection_named π u both.right p.0 b p.1 (ap (λ z. is_selection_in z b) p.2 ∙ l') in
-          ids_stand l r family.Selection s.0 s'.0 a b (In-flat_map selections_of_contest s.0 o.0 (contests t) o.1 s.1) (In-flat_map selections_of_contest s'.0 p.0 (contests u) p.1 s'.1)
+          ids_stand l r family.Selection s.0 s'.0 a b (In-flat_map selections_of_contest s.0 o.0 (contests t) o.1 s.1)
+          (In-flat_map selections_of_contest s'.0 p.0 (contests u) p.1 s'.1)
           (by_name refl o.0 p.0 o.1 p.1 (ap (key_of π) o.2 ∙ i ∙ sym j ∙ sym (ap (key_of π) p.2)) s.1 s'.1 (sym s.3 ∙ names ∙ s'.3)) s.2 s'.2;
     }

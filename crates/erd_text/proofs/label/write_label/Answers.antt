@@ -12,6 +12,7 @@ returns-in_ok-begin_object-in-Object c =
     let seen : label ≡ object members = ap view c.in-Object.is ∙ view-Object c.in-Object.members in
     on_ok_weaker c.write_members.result
     (λ written whole.
-    object_written label members _ c.args.out.now c.begin_object.new.self c.write_members.new.out seen c.entries_at.ensures c.in_ok-begin_object-in-Object.ensures
+    object_written label members _ c.args.out.now c.begin_object.new.self c.write_members.new.out seen c.entries_at.ensures
+    c.in_ok-begin_object-in-Object.ensures
     (written (ap has_float (sym seen) ∙ whole) (whole_list_at (codes "Text") label c.entries_at.result.now whole c.entries_at.ensures)))
     c.write_members.ensures

@@ -5,4 +5,5 @@ abbrev pub invariant-loop-pair : goal.invariant-loop-pair
 invariant-loop-pair l =
     items_have_float (items_of (map (λ p. view p.1.now) l.pairs)) ≡ false
     → (items_have_float (items_of (map (λ p. view p.1.now) (drop l.pair-index l.pairs))) ≡ false)
-    × (l.out ++ items_tokens (items_of (map (λ p. view p.1.now) (drop l.pair-index l.pairs))) ≡ l.initial.out ++ items_tokens (items_of (map (λ p. view p.1.now) l.pairs)))
+    × (l.out ++ items_tokens (items_of (map (λ p. view p.1.now) (drop l.pair-index l.pairs))) ≡ l.initial.out
+    ++ items_tokens (items_of (map (λ p. view p.1.now) l.pairs)))

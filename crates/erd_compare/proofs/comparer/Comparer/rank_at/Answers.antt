@@ -11,5 +11,7 @@ returns c =
     let j = on_side c.args.side a b in
     let ranks = c.self.inside.ranks in
     c.common_rank.ensures
-    ∙ rank_found a b ranks (subst (λ (x : Compared). AreCommonByRank x.left x.right ranks) c.self.view_is c.self.invariant.by_rank) c.args.side r c.requires.ranked c.args.position c.in_ok-rank.rank (key_in_role j.prefer r (view j.tree) c.args.position) refl
-    (subst (λ (x : Judged). Some c.in_ok-rank.rank ≡ option_map (λ k. rank_in_keys (keys_in_role x.prefer (view x.tree) r) (Some k)) (key_in_role x.prefer r (view x.tree) c.args.position)) c.on.ensures.same c.in_ok-rank.ensures)
+    ∙ rank_found a b ranks (subst (λ (x : Compared). AreCommonByRank x.left x.right ranks) c.self.view_is c.self.invariant.by_rank) c.args.side r
+    c.requires.ranked c.args.position c.in_ok-rank.rank (key_in_role j.prefer r (view j.tree) c.args.position) refl
+    (subst (λ (x : Judged). Some c.in_ok-rank.rank ≡ option_map (λ k. rank_in_keys (keys_in_role x.prefer (view x.tree) r) (Some k))
+    (key_in_role x.prefer r (view x.tree) c.args.position)) c.on.ensures.same c.in_ok-rank.ensures)

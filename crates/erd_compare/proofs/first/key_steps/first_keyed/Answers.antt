@@ -9,6 +9,9 @@ returns c =
     let b = c.args.comparer.now.right in
     let p = c.args.part in
     let after = c.next_difference.new.at in
-    let begins : AreKeysFound a b p [] c.start-at.result = subst (AreKeysFound a b p []) (sym (ap₂ (λ (i j : ℕ). record { one = i; other = j }) c.start-at.ensures.one c.start-at.ensures.other)) (start false a b p c.rising_in.result c.rising_in.ensures) in
-    IfOk-weaker c.next_difference.result (λ next. (found : List (Option Key)) → AreKeysFound a b p found c.start-at.result → GoesOnToKey false a b p found after next) (TellsLeast (map_of a p) (map_of b p))
+    let begins : AreKeysFound a b p [] c.start-at.result =
+    subst (AreKeysFound a b p []) (sym (ap₂ (λ (i j : ℕ). record { one = i; other = j }) c.start-at.ensures.one c.start-at.ensures.other))
+    (start false a b p c.rising_in.result c.rising_in.ensures) in
+    IfOk-weaker c.next_difference.result (λ next. (found : List (Option Key)) → AreKeysFound a b p found c.start-at.result
+    → GoesOnToKey false a b p found after next) (TellsLeast (map_of a p) (map_of b p))
     (λ next told. first_told false a b p after next (told [] begins)) c.next_difference.ensures.next

@@ -11,15 +11,18 @@ loop-next-init c =
     let b = c.args.comparer.now.right in
     let p = c.args.part in
     none_appended p a b c.args.found.now.items c.start-at.result
-    (subst (AreKeysFound a b p []) (sym (ap₂ (λ (i j : ℕ). record { one = i; other = j }) c.start-at.ensures.one c.start-at.ensures.other)) (start true a b p c.rising_in-rising.result c.rising_in-rising.ensures))
+    (subst (AreKeysFound a b p []) (sym (ap₂ (λ (i j : ℕ). record { one = i; other = j }) c.start-at.ensures.one c.start-at.ensures.other))
+    (start true a b p c.rising_in-rising.result c.rising_in-rising.ensures))
 
 pub loop-next-preserved : goal.loop-next-preserved
 loop-next-preserved c =
     let a = c.args.comparer.now.left in
     let b = c.args.comparer.now.right in
     let p = c.args.part in
-    one_appended p a b c.args.found.now.items c.loop-next.found.items c.push_ways.new.found.items c.loop-next.at c.next_difference.new.at c.in-Some.next c.loop-next.invariant
-    (λ found given. subst (GoesOnToKey true a b p found c.next_difference.new.at) c.in-Some.is (c.in_ok-next.ensures.next found given)) c.in_ok-push_ways.ensures
+    one_appended p a b c.args.found.now.items c.loop-next.found.items c.push_ways.new.found.items c.loop-next.at c.next_difference.new.at
+    c.in-Some.next c.loop-next.invariant
+    (λ found given. subst (GoesOnToKey true a b p found c.next_difference.new.at) c.in-Some.is (c.in_ok-next.ensures.next found given))
+    c.in_ok-push_ways.ensures
 
 -- the same, where the ways have names to free
 pub loop-next-preserved-in_ok-push_ways : goal.loop-next-preserved-in_ok-push_ways
@@ -27,8 +30,10 @@ loop-next-preserved-in_ok-push_ways c =
     let a = c.args.comparer.now.left in
     let b = c.args.comparer.now.right in
     let p = c.args.part in
-    one_appended p a b c.args.found.now.items c.loop-next.found.items c.push_ways.new.found.items c.loop-next.at c.next_difference.new.at c.in-Some.next c.loop-next.invariant
-    (λ found given. subst (GoesOnToKey true a b p found c.next_difference.new.at) c.in-Some.is (c.in_ok-next.ensures.next found given)) c.in_ok-push_ways.ensures
+    one_appended p a b c.args.found.now.items c.loop-next.found.items c.push_ways.new.found.items c.loop-next.at c.next_difference.new.at
+    c.in-Some.next c.loop-next.invariant
+    (λ found given. subst (GoesOnToKey true a b p found c.next_difference.new.at) c.in-Some.is (c.in_ok-next.ensures.next found given))
+    c.in_ok-push_ways.ensures
 
 pub returns : goal.returns
 returns c =

@@ -22,4 +22,5 @@ returns-in-None c =
 pub returns : goal.returns
 returns c =
     let vs = c.args.ways.now in
-    subst (λ s. c.loop-named.left + s ≡ c.args.room) (sizes_at vs) (all_fit size_at vs c.loop-named.named-index (sum_by size_at vs) c.args.room c.loop-named.left c.loop-named.invariant c.loop-named-test.false)
+    subst (λ s. c.loop-named.left + s ≡ c.args.room) (sizes_at vs)
+    (all_fit size_at vs c.loop-named.named-index (sum_by size_at vs) c.args.room c.loop-named.left c.loop-named.invariant c.loop-named-test.false)

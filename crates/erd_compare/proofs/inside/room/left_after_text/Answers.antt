@@ -11,10 +11,12 @@ returns-in_default c =
 pub returns-then-left-room : goal.returns-then-left-room
 returns-then-left-room c =
     let ds = differences_at c.args.ways.now in
-    nothing_there ds c.args.room c.in-Some.left c.left_after_bytes.result (subst (λ o. Leaves (size_of_list ds) c.args.room o) c.in-Some.is c.in_ok-left.ensures) c.if-left-room.true c.left_after_bytes.ensures
+    nothing_there ds c.args.room c.in-Some.left c.left_after_bytes.result
+    (subst (λ o. Leaves (size_of_list ds) c.args.room o) c.in-Some.is c.in_ok-left.ensures) c.if-left-room.true c.left_after_bytes.ensures
 
 pub returns-else-left-room : goal.returns-else-left-room
 returns-else-left-room c =
     let ds = differences_at c.args.ways.now in
-    some_there ds c.args.room c.in-Some.left c.left_after_bytes-else-left-room.result (subst (λ o. Leaves (size_of_list ds) c.args.room o) c.in-Some.is c.in_ok-left.ensures) c.if-left-room.false
+    some_there ds c.args.room c.in-Some.left c.left_after_bytes-else-left-room.result
+    (subst (λ o. Leaves (size_of_list ds) c.args.room o) c.in-Some.is c.in_ok-left.ensures) c.if-left-room.false
     c.left_after_bytes-else-left-room.ensures

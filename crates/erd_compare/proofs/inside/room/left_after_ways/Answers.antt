@@ -25,8 +25,10 @@ returns-in-None c =
     let here = at_low ss i c.loop-member-test.true in
     let low : c.args.room < sum_by size ss =
     one_does_not size ss i (sum_by size ss) c.args.room left c.loop-member.invariant here.0 here.1
-    (subst (λ (s : Bor (List ℕ)). Leaves (size s) left None) (get_or_from_slice_get ss i here.0 no_member here.1) (subst (λ o. Leaves (size (get_or ss i no_member)) left o) c.in-None.is c.in_ok-less-in-Members.ensures))
+    (subst (λ (s : Bor (List ℕ)). Leaves (size s) left None) (get_or_from_slice_get ss i here.0 no_member here.1)
+    (subst (λ o. Leaves (size (get_or ss i no_member)) left o) c.in-None.is c.in_ok-less-in-Members.ensures))
     in
     subst (λ w. c.args.room < size_of_list (differences_named name w)) (sym c.in-Members.is)
-    (subst (λ (xs : List (Bor (List ℕ))). c.args.room < size_of_list (map (the_difference name) (map Member (map (λ s. s.now) xs)))) c.deref-member-items.ensures.value
+    (subst (λ (xs : List (Bor (List ℕ))). c.args.room < size_of_list (map (the_difference name) (map Member (map (λ s. s.now) xs))))
+    c.deref-member-items.ensures.value
     (subst (λ n. c.args.room < n) (sizes_in name ss) low))

@@ -8,4 +8,5 @@ returns-then-is_same_holder c all k l decides a b left right told = ways_of_one 
 pub returns-in_ok-with_election-in-Members : goal.returns-in_ok-with_election-in-Members
 returns-in_ok-with_election-in-Members c all k l decides a b left right told =
     subst (DifferInNames all (Some (record_in_election k a)) (Some (record_in_election l b))) (sym c.in_ok-with_election-in-Members.ensures)
-    (ways_of_two all k l a b left right _ (λ same. true≢false (sym (decides.1 same) ∙ c.if-is_same_holder.false)) (subst (AreWays all (Some a) (Some b)) c.in-Members.is told))
+    (ways_of_two all k l a b left right _ (λ same. true≢false (sym (decides.1 same) ∙ c.if-is_same_holder.false))
+    (subst (AreWays all (Some a) (Some b)) c.in-Members.is told))

@@ -9,7 +9,8 @@ invariant-loop-found l =
     record {
       stand : StandInPair d e l.left;
       none : l.all ≡ false → l.found.items ≡ [];
-      left : AreFound (member_of_class l.comparer.left.prefer (view l.comparer.left.tree) d l.class) (member_of_class l.comparer.right.prefer (view l.comparer.right.tree) e l.class) (map (λ s. s.now) l.found.items) l.left;
+      left : AreFound (member_of_class l.comparer.left.prefer (view l.comparer.left.tree) d l.class)
+          (member_of_class l.comparer.right.prefer (view l.comparer.right.tree) e l.class) (map (λ s. s.now) l.found.items) l.left;
     }
 
 abbrev pub decreases-loop-found : goal.decreases-loop-found

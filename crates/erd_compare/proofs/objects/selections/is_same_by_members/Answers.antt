@@ -1,4 +1,5 @@
-use Rattle.erd_compare.proofs.Common.{◌≡◌, ℕ, Bool, true, false, not, List, [], is_some, Some, None, Option, option_map, refl, ap, subst, Bor, rules, view, PlainValue, a_plain, plain_member, absent_plain, Decides, plain_found, MemberMap, IsMapOf}
+use Rattle.erd_compare.proofs.Common.{◌≡◌, ℕ, Bool, true, false, not, List, [], is_some, Some, None, Option, option_map, refl, ap, subst, Bor, rules, view}
+use Rattle.erd_compare.proofs.Common.{PlainValue, a_plain, plain_member, absent_plain, Decides, plain_found, MemberMap, IsMapOf}
 use Rattle.erd_compare.proofs.differing.Walks.{goes_from}
 use Rattle.erd_compare.proofs.same_values.SameValues.{decides_as}
 use Rattle.erd_compare.proofs.same_selections.SelectionWalks.{plain-Decides, plain_maps-Decide, seen}
@@ -28,7 +29,10 @@ returns c =
     (λ pair answer is h.
     let name = pair.name.now in
     let same : Decides answer (plain_found π t c.args.class name (seen pair.one)) (plain_found ρ u c.args.class name (seen pair.other)) = search rules in
-    plain-Decides answer (m name) (n name) (decides_as refl (ap (plain_found π t c.args.class name) is.one) (ap (plain_found ρ u c.args.class name) is.other) same))
-    c.in-Some.left c.next_differing.new.self found found c.in-Some.ensures.stand.one c.in-Some.ensures.stand.other c.in_ok-found.ensures.next refl [] (c.in-Some.ensures.left mine its of_one of_other)
+    plain-Decides answer (m name) (n name)
+    (decides_as refl (ap (plain_found π t c.args.class name) is.one) (ap (plain_found ρ u c.args.class name) is.other) same))
+    c.in-Some.left c.next_differing.new.self found found c.in-Some.ensures.stand.one c.in-Some.ensures.stand.other c.in_ok-found.ensures.next refl []
+    (c.in-Some.ensures.left mine its of_one of_other)
     in
-    subst (λ answer. Decides answer m n) (none_told c.in_ok-found.found c.is_none.result c.is_none.ensures) (plain_maps-Decide m n c.next_differing.new.self found told)
+    subst (λ answer. Decides answer m n) (none_told c.in_ok-found.found c.is_none.result c.is_none.ensures)
+    (plain_maps-Decide m n c.next_differing.new.self found told)

@@ -13,12 +13,15 @@ is_same_selection_map-requires-clause-ones c =
 pub is_same_selection_map-requires-clause-others : goal.is_same_selection_map-requires-clause-others
 is_same_selection_map-requires-clause-others c =
     whole_values-entries_of (view c.in-Some-Some.others.now) c.entries_of-in-Some-Some.result.now
-    (whole_filled c.args.pair.other (view c.in-Some-Some.others.now) c.requires.whole.1 (sym c.filled-2.ensures ∙ ap seen c.in-Some-Some.is-1)) c.entries_of-in-Some-Some.ensures
+    (whole_filled c.args.pair.other (view c.in-Some-Some.others.now) c.requires.whole.1 (sym c.filled-2.ensures ∙ ap seen c.in-Some-Some.is-1))
+    c.entries_of-in-Some-Some.ensures
 
 pub returns-in-Some-Some : goal.returns-in-Some-Some
 returns-in-Some-Some c =
-    selections-Decide c.args.comparer.now.left.prefer c.args.comparer.now.right.prefer c.is_same_selection_map.result (view c.args.comparer.now.left.tree) (view c.args.comparer.now.right.tree) (view c.in-Some-Some.ones.now) (view c.in-Some-Some.others.now) _ _ _ _
-    (sym c.filled.ensures ∙ ap seen c.in-Some-Some.is-0) (sym c.filled-2.ensures ∙ ap seen c.in-Some-Some.is-1) c.entries_of.ensures c.entries_of-in-Some-Some.ensures c.is_same_selection_map.ensures
+    selections-Decide c.args.comparer.now.left.prefer c.args.comparer.now.right.prefer c.is_same_selection_map.result (view c.args.comparer.now.left.tree)
+    (view c.args.comparer.now.right.tree) (view c.in-Some-Some.ones.now) (view c.in-Some-Some.others.now) _ _ _ _
+    (sym c.filled.ensures ∙ ap seen c.in-Some-Some.is-0) (sym c.filled-2.ensures ∙ ap seen c.in-Some-Some.is-1) c.entries_of.ensures
+    c.entries_of-in-Some-Some.ensures c.is_same_selection_map.ensures
 
 pub is_same_selection_map-requires-clause-ones_named : goal.is_same_selection_map-requires-clause-ones_named
 is_same_selection_map-requires-clause-ones_named c =
@@ -28,4 +31,5 @@ is_same_selection_map-requires-clause-ones_named c =
 pub is_same_selection_map-requires-clause-others_named : goal.is_same_selection_map-requires-clause-others_named
 is_same_selection_map-requires-clause-others_named c =
     selections_in c.args.comparer.now.right c.args.other_position (seen c.args.pair.other) (view c.in-Some-Some.others.now) _ c.requires.other_placed
-    (filled-there (seen c.args.pair.other) (view c.in-Some-Some.others.now) (sym c.filled-2.ensures ∙ ap seen c.in-Some-Some.is-1)) c.entries_of-in-Some-Some.ensures
+    (filled-there (seen c.args.pair.other) (view c.in-Some-Some.others.now) (sym c.filled-2.ensures ∙ ap seen c.in-Some-Some.is-1))
+    c.entries_of-in-Some-Some.ensures

@@ -8,11 +8,13 @@ returns-in-Some c =
     let t = view c.args.report.now.tree in
     let r = c.args.role in
     ap Some c.key_at.ensures
-    ∙ (ap (option_map (key_in_role π r t)) (c.in-Some.ensures ∙ ap (λ ks. slice_get ks c.args.rank) c.rising.ensures) ∙ sym (keys_at π t r c.requires.ranked c.args.rank))
+    ∙ (ap (option_map (key_in_role π r t)) (c.in-Some.ensures ∙ ap (λ ks. slice_get ks c.args.rank) c.rising.ensures)
+    ∙ sym (keys_at π t r c.requires.ranked c.args.rank))
 
 pub returns-in-None : goal.returns-in-None
 returns-in-None c =
     let π = c.args.report.now.prefer in
     let t = view c.args.report.now.tree in
     let r = c.args.role in
-    ap (option_map (key_in_role π r t)) (c.in-None.ensures ∙ ap (λ ks. slice_get ks c.args.rank) c.rising.ensures) ∙ sym (keys_at π t r c.requires.ranked c.args.rank)
+    ap (option_map (key_in_role π r t)) (c.in-None.ensures ∙ ap (λ ks. slice_get ks c.args.rank) c.rising.ensures)
+    ∙ sym (keys_at π t r c.requires.ranked c.args.rank)

@@ -1,4 +1,5 @@
-use Rattle.erd_compare.proofs.Common.{◌≡◌, ℕ, true, slice_get, Some, Option, option_map, sym, ap, ◌∙◌, view, Role, has_keys, key_in, elections, rank_in_keys, keys_in_role, key_in_role, is_ranked}
+use Rattle.erd_compare.proofs.Common.{◌≡◌, ℕ, true, slice_get, Some, Option, option_map, sym, ap, ◌∙◌, view, Role, has_keys, key_in, elections, rank_in_keys}
+use Rattle.erd_compare.proofs.Common.{keys_in_role, key_in_role, is_ranked}
 use Rattle.erd_compare.proofs.least_difference.RisingKeys.{election_ranks, family_ranks}
 use Rattle.erd_compare.proofs.ranks.role_objects.rank_at.Goals as goal
 
@@ -17,4 +18,5 @@ returns-in_ok-election_key-in-Election c =
     let t = view c.args.report.now.tree in
     let told : Role → Option ℕ = λ r. option_map (λ key. rank_in_keys (keys_in_role π t r) (Some key)) (key_in_role π r t c.args.position) in
     c.election_rank_at.ensures
-    ∙ (election_ranks π t (slice_get (elections t) c.args.position) c.in_ok-election_key-in-Election.field-0.now (sym c.in_ok-election_key-in-Election.ensures) ∙ ap told (sym c.in-Election.is))
+    ∙ (election_ranks π t (slice_get (elections t) c.args.position) c.in_ok-election_key-in-Election.field-0.now (sym c.in_ok-election_key-in-Election.ensures)
+    ∙ ap told (sym c.in-Election.is))

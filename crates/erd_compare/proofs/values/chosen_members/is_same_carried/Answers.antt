@@ -8,5 +8,6 @@ returns c =
     let one = view c.args.one.now in
     let other = view c.args.other.now in
     subst (λ (answer : Bool). Decides answer (carried_members c.args.one_class one) (carried_members c.args.other_class other)) (sym c.is_same_choice.ensures)
-    (chosen-Decides (Carried c.args.one_class) (Carried c.args.other_class) one other (carried_members c.args.one_class one) (carried_members c.args.other_class other)
+    (chosen-Decides (Carried c.args.one_class) (Carried c.args.other_class) one other (carried_members c.args.one_class one)
+    (carried_members c.args.other_class other)
     c.requires.one c.requires.other (carried_by_choice c.args.one_class one) (carried_by_choice c.args.other_class other))

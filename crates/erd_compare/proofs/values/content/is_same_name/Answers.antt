@@ -10,4 +10,5 @@ returns c =
     let one = as_str (view c.args.one.now) in
     let other = as_str (view c.args.other.now) in
     decides_as (c.eq.ensures ∙ ap₂ (option_eq ◌==◌) c.number_of_name_named.ensures c.number_of_name_named-2.ensures) refl refl
-    (names_decide a b (option_and_then (name_named a.prefer (view a.tree)) one) (option_and_then (name_named b.prefer (view b.tree)) other) (reference_named a b Left one) (reference_named a b Right other))
+    (names_decide a b (option_and_then (name_named a.prefer (view a.tree)) one) (option_and_then (name_named b.prefer (view b.tree)) other)
+    (reference_named a b Left one) (reference_named a b Right other))

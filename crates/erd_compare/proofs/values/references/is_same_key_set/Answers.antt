@@ -11,7 +11,8 @@ returns c =
     let f = c.args.family in
     let s = c.set_of-ones.result.items in
     let t = c.set_of-others.result.items in
-    sets_decide a b (OfFamily f) (keys_named a.prefer (view a.tree) f (map view c.args.ones.now)) (keys_named b.prefer (view b.tree) f (map view c.args.others.now))
+    sets_decide a b (OfFamily f) (keys_named a.prefer (view a.tree) f (map view c.args.ones.now))
+    (keys_named b.prefer (view b.tree) f (map view c.args.others.now))
     (named_known a b Left f c.requires.keyed (map view c.args.ones.now)) (named_known a b Right f c.requires.keyed (map view c.args.others.now)) s t c.eq.result
     (subst (λ (ns : List ℕ). IsRankSet ns s) (c.in_ok-ranks_named.ensures ∙ ranks_of_keys a b Left f c.args.ones.now) c.set_of-ones.ensures)
     (subst (λ (ns : List ℕ). IsRankSet ns t) (c.in_ok-ranks_named-2.ensures ∙ ranks_of_keys a b Right f c.args.others.now) c.set_of-others.ensures)

@@ -3,5 +3,6 @@ use Rattle.erd_compare.proofs.values.references.ranks_named.Given as goal
 
 abbrev pub invariant-loop-value : goal.invariant-loop-value
 invariant-loop-value l =
-    l.ranks.items ++ filter_map (λ v. option_and_then (rank_with_id l.comparer.left l.comparer.right l.side l.family) (as_str (view v))) (drop l.value-index l.values)
+    l.ranks.items ++ filter_map (λ v. option_and_then (rank_with_id l.comparer.left l.comparer.right l.side l.family) (as_str (view v)))
+    (drop l.value-index l.values)
     ≡ filter_map (λ v. option_and_then (rank_with_id l.comparer.left l.comparer.right l.side l.family) (as_str (view v))) l.values

@@ -6,4 +6,5 @@ use Rattle.erd_compare.proofs.values.references.set_of.Goals as goal
 pub returns : goal.returns
 returns c =
     let sorted = c.sort_unstable.new.self.items in
-    sorted_once c.args.ranks.items sorted c.dedup.new.self.items c.sort_unstable.ensures.permutation c.sort_unstable.ensures.sorted (dedup_is ◌==◌ sorted c.dedup.new.self.items c.dedup.ensures.filtered)
+    sorted_once c.args.ranks.items sorted c.dedup.new.self.items c.sort_unstable.ensures.permutation c.sort_unstable.ensures.sorted
+    (dedup_is ◌==◌ sorted c.dedup.new.self.items c.dedup.ensures.filtered)

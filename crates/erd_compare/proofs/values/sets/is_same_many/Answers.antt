@@ -11,6 +11,8 @@ returns c =
     let mine = c.are_in.ensures ∙ ap (λ s. list_all s ones) (stands_for others c.in_ok-right.right c.in_ok-right.ensures) in
     elim c.if-are_in.branch [
       | then-are_in w ↦ values_decide c.args.ones.now c.args.others.now _ c.requires.ones c.requires.others
-          (second_answer _ _ _ _ mine (w.are_in-then-are_in.ensures ∙ ap (λ s. list_all s others) (stands_for ones c.in_ok-left.left c.in_ok-left.ensures)) w.if-are_in.true ∙ sym w.result-is)
-      | else-are_in w ↦ values_decide c.args.ones.now c.args.others.now _ c.requires.ones c.requires.others (first_answer _ _ _ mine w.if-are_in.false ∙ sym w.result-is)
+          (second_answer _ _ _ _ mine (w.are_in-then-are_in.ensures ∙ ap (λ s. list_all s others) (stands_for ones c.in_ok-left.left c.in_ok-left.ensures))
+          w.if-are_in.true ∙ sym w.result-is)
+      | else-are_in w ↦ values_decide c.args.ones.now c.args.others.now _ c.requires.ones c.requires.others
+          (first_answer _ _ _ mine w.if-are_in.false ∙ sym w.result-is)
     ]

@@ -6,5 +6,4 @@ pub returns : goal.returns
 returns g c =
     c.get_index_of.ensures.index
     ∙ position_numbered g.K.Hash.hash_input c.self.inside.salt c.number-number.result (g.Q.Sought.finds c.args.sought) c.number-number.ensures
-    c.self.inside.set.keys c.self.invariant
-    ∙ ap (λ s. position (g.Q.Sought.finds c.args.sought) s.keys) c.self.view_is
+    c.self.inside.set.keys c.self.invariant ∙ ap (λ s. position (g.Q.Sought.finds c.args.sought) s.keys) c.self.view_is

@@ -1,4 +1,5 @@
-use Rattle.erd_meaning.proofs.Common.{◌≡◌, ℕ, List, map, IfOk, nat_cmp, ap, ◌∙◌, subst, view, family_chosen, rising_list, keys_of_selection, key_among, ranked_key, shown, Key}
+use Rattle.erd_meaning.proofs.Common.{◌≡◌, ℕ, List, map, IfOk, nat_cmp, ap, ◌∙◌, subst, view, family_chosen, rising_list, keys_of_selection, key_among}
+use Rattle.erd_meaning.proofs.Common.{ranked_key, shown, Key}
 use Rattle.erd_meaning.proofs.selections.RankedKeys.{IsKeyAmong, all_chosen, ranked_in_order, referred_known}
 use Rattle.erd_meaning.proofs.names.naming.chosen_keys.Goals as goal
 

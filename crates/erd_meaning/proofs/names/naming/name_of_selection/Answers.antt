@@ -10,8 +10,7 @@ returns c =
     let chosen = c.in_ok-chosen.chosen.items in
     let keys = c.in_ok-named.ensures ∙ ap (map (λ x. x.1)) c.deref-2.ensures.value in
     let name : c.of.result.name ≡ name_with c.args.keys.now class d (map (λ x. x.1) chosen) =
-    c.of.ensures.name
-    ∙ (λ i. record {
+    c.of.ensures.name ∙ (λ i. record {
       class = class;
       keys = keys i;
       write_in = c.is_write_in.ensures i;

@@ -1,4 +1,5 @@
-use Rattle.erd_meaning.proofs.Common.{◌≡◌, ◌+◌, ◌^◌, ◌<◌, [], ◌∷◌, ◌++◌, map, length, codes, ap, ◌∙◌, arith, view, Name, steps_of, placed_from, placed_entries, name_among, numbered_from, named_all, shown, placed_at, names_met}
+use Rattle.erd_meaning.proofs.Common.{◌≡◌, ◌+◌, ◌^◌, ◌<◌, [], ◌∷◌, ◌++◌, map, length, codes, ap, ◌∙◌, arith, view, Name, steps_of, placed_from, placed_entries}
+use Rattle.erd_meaning.proofs.Common.{name_among, numbered_from, named_all, shown, placed_at, names_met}
 use Rattle.erd_meaning.proofs.finding.ElectionsHeld.{as_many}
 use Rattle.erd_meaning.proofs.selections.MetSelections.{all_named, named_inside}
 use Rattle.erd_text.proofs.WholeValues.{whole_entry}
@@ -12,15 +13,18 @@ overflow_add-first c =
 
 pub meet_contest-requires : goal.meet_contest-requires
 meet_contest-requires c = record {
-  whole = whole_entry (codes "Contest") (view c.args.election.now) c.entries_at-entries.result.now c.loop-index.index c.index-entries-index.result c.requires.whole
+  whole = whole_entry (codes "Contest") (view c.args.election.now) c.entries_at-entries.result.now c.loop-index.index
+      c.index-entries-index.result c.requires.whole
       c.entries_at-entries.ensures c.loop-index-test.true c.index-entries-index.is;
   ranked = c.loop-index.invariant.1;
 }
 
 pub loop-index-preserved : goal.loop-index-preserved
 loop-index-preserved c = (
-  named_inside (name_among c.args.keys.now (map shown c.args.objects.now.objects)) c.args.first (steps_of c.args.path.now ++ Name (codes "Contest") ∷ []) c.entries_at-entries.result.now c.loop-index.index
-      c.index-entries-index.result (names_met c.loop-index.walk) (names_met c.meet_contest.new.walk) _ c.loop-index-test.true c.index-entries-index.is c.loop-index.invariant.0 c.in_ok-meet_contest.ensures.met,
+  named_inside (name_among c.args.keys.now (map shown c.args.objects.now.objects)) c.args.first (steps_of c.args.path.now ++ Name (codes "Contest") ∷ [])
+      c.entries_at-entries.result.now c.loop-index.index
+      c.index-entries-index.result (names_met c.loop-index.walk) (names_met c.meet_contest.new.walk) _ c.loop-index-test.true c.index-entries-index.is
+      c.loop-index.invariant.0 c.in_ok-meet_contest.ensures.met,
   c.in_ok-meet_contest.ensures.ranked,
   c.in_ok-meet_contest.ensures.start ∙ c.loop-index.invariant.2,
 )
@@ -41,6 +45,7 @@ returns-clause-met c =
     let name = name_among c.args.keys.now (map shown c.args.objects.now.objects) in
     let place = steps_of c.args.path.now ++ Name (codes "Contest") ∷ [] in
     let none : c.args.first + 0 ≡ c.args.first = omega arith in
-    all_named name c.args.first place c.entries_at-entries.result.now c.loop-index.index (names_met c.loop-index.walk) _ c.loop-index-test.false c.loop-index.invariant.0
+    all_named name c.args.first place c.entries_at-entries.result.now c.loop-index.index (names_met c.loop-index.walk) _ c.loop-index-test.false
+    c.loop-index.invariant.0
     ∙ ap (λ k. named_all name (names_met c.args.walk.now) (numbered_from k (placed_from place 0 (map view c.entries_at-entries.result.now)))) none
     ∙ ap (λ ds. named_all name (names_met c.args.walk.now) (numbered_from c.args.first (placed_from place 0 ds))) c.entries_at-entries.ensures

@@ -9,7 +9,8 @@ returns-in-Some-clause-met c =
     let is = ranked_name_is ks c.args.keys.now (view c.args.selection.now) name (sym c.in_ok-name.ensures ∙ c.in-Some.is) in
     let before = names_met c.args.walk.now in
     IfOk-weaker c.meet_name.result _ _
-    (λ _ met. met ks c.requires.ranked is.0 ∙ sym (ap (λ (o : Option NameParts). option_map_or (with_name before (steps_of c.args.path.now) c.args.contest) o before) is.1))
+    (λ _ met. met ks c.requires.ranked is.0
+    ∙ sym (ap (λ (o : Option NameParts). option_map_or (with_name before (steps_of c.args.path.now) c.args.contest) o before) is.1))
     c.meet_name.ensures.met
 
 pub returns-in-Some-clause-ranked : goal.returns-in-Some-clause-ranked

@@ -24,5 +24,6 @@ pub returns-clause-met : goal.returns-clause-met
 returns-clause-met c =
     let h = c.into_iter-one-iterator.ensures.into_iter_gives in
     let given = YieldsList-from_vec {s = c.into_iter-one-iterator.result} c.args.all.items h.0 (h.1 ∙ c.args.all.ok.0) in
-    let end = YieldsList-end given c.loop-one.yielded c.loop-one.one-iterator c.loop-one.yielded_by c.next.result c.next.new.self c.in-None.is c.next.ensures.steps in
+    let end = YieldsList-end given c.loop-one.yielded c.loop-one.one-iterator c.loop-one.yielded_by c.next.result c.next.new.self c.in-None.is
+    c.next.ensures.steps in
     c.loop-one.invariant.0 ∙ ap (λ xs. met_all nothing_met (map found xs)) (sym (map-id c.loop-one.yielded) ∙ end.0)

@@ -5,6 +5,5 @@ use Rattle.erd_meaning.proofs.objects.filled.filled.Given as goal
 
 abbrev pub invariant-loop-one : goal.invariant-loop-one
 invariant-loop-one l =
-    (met_of l.tables ≡ met_all nothing_met (map found l.yielded))
-    × (l.tables.objects.start ≡ l.initial.tables.objects.start)
+    (met_of l.tables ≡ met_all nothing_met (map found l.yielded)) × (l.tables.objects.start ≡ l.initial.tables.objects.start)
     × (l.tables.elections.start ≡ l.initial.tables.elections.start)

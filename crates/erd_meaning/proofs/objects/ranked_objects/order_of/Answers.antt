@@ -1,4 +1,5 @@
-use Rattle.erd_meaning.proofs.Common.{◌≡◌, true, List, [], map, Option, sym, ap, ◌∙◌, subst, IfOk-weaker, IsDistinct, has_keys, positioned, keys_seen, AreDistinct, family_keys, IsOrder, shown, Key}
+use Rattle.erd_meaning.proofs.Common.{◌≡◌, true, List, [], map, Option, sym, ap, ◌∙◌, subst, IfOk-weaker, IsDistinct, has_keys, positioned, keys_seen}
+use Rattle.erd_meaning.proofs.Common.{AreDistinct, family_keys, IsOrder, shown, Key}
 use Rattle.erd_meaning.proofs.identity.ObjectFamilies.{keyed_unless}
 use Rattle.erd_meaning.proofs.selections.PositionedKeys.{KeyEntry, keys_placed}
 use Rattle.erd_meaning.proofs.objects.ranked_objects.order_of.Goals as goal
@@ -24,4 +25,5 @@ returns-in_ok-keys_of_family-in_default c =
     let ks = family_keys (map shown c.args.objects.now.objects) f in
     let keys = c.in_ok-keys_of_family-in_default.field-0.items in
     IfOk-weaker c.of-in_default.result (IsOrder (keys_seen keys)) (λ order. has_keys f ≡ true → IsOrder ks order)
-    (λ order is keyed. subst (λ (ls : List (Option Key)). IsOrder ls order) (keys_placed keys ks c.in_ok-keys_of_family-in_default.ensures) is) c.of-in_default.ensures
+    (λ order is keyed. subst (λ (ls : List (Option Key)). IsOrder ls order) (keys_placed keys ks c.in_ok-keys_of_family-in_default.ensures) is)
+    c.of-in_default.ensures

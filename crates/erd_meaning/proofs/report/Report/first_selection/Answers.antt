@@ -6,4 +6,5 @@ pub returns : goal.returns
 returns c =
     let t = view c.args.self.now.tree in
     start_counted t c.args.contest c.first_selection.result
-    (subst (λ ns. IsStart ns c.args.contest c.first_selection.result) (ap (contests_before 0) c.objects.ensures.resolved.1.kept ∙ contests_counted_in c.args.self.now.prefer t) c.first_selection.ensures)
+    (subst (λ ns. IsStart ns c.args.contest c.first_selection.result)
+    (ap (contests_before 0) c.objects.ensures.resolved.1.kept ∙ contests_counted_in c.args.self.now.prefer t) c.first_selection.ensures)

@@ -4,8 +4,10 @@ use Rattle.erd_meaning.proofs.report.Report.object.Goals as goal
 
 pub returns-in-Some : goal.returns-in-Some
 returns-in-Some c =
-    ap (option_map (λ (k : Kept). k.value)) c.in-Some.ensures ∙ value_at c.args.self.now.prefer c.args.self.now.tree c.objects.result.now.objects c.objects.ensures.resolved.0 c.args.family c.args.index c.objects.ensures.resolved.1
+    ap (option_map (λ (k : Kept). k.value)) c.in-Some.ensures ∙ value_at c.args.self.now.prefer c.args.self.now.tree c.objects.result.now.objects
+    c.objects.ensures.resolved.0 c.args.family c.args.index c.objects.ensures.resolved.1
 
 pub returns-in-None : goal.returns-in-None
 returns-in-None c =
-    ap (option_map (λ (k : Kept). k.value)) c.in-None.ensures ∙ value_at c.args.self.now.prefer c.args.self.now.tree c.objects.result.now.objects c.objects.ensures.resolved.0 c.args.family c.args.index c.objects.ensures.resolved.1
+    ap (option_map (λ (k : Kept). k.value)) c.in-None.ensures ∙ value_at c.args.self.now.prefer c.args.self.now.tree c.objects.result.now.objects
+    c.objects.ensures.resolved.0 c.args.family c.args.index c.objects.ensures.resolved.1

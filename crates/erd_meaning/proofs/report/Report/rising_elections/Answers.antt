@@ -7,4 +7,5 @@ returns c =
     let π = c.args.self.now.prefer in
     let t = view c.args.self.now.tree in
     c.deref.ensures.value ∙ c.elections.ensures.ordered.rises
-    ∙ ap (map (λ (p : KeyPosition). p.1)) (ap (rising_list (λ a b. option_cmp key_cmp a.0 b.0)) (positioned_made (λ (e : Placed). key_of π e.value) 0 (elections t)))
+    ∙ ap (map (λ (p : KeyPosition). p.1))
+    (ap (rising_list (λ a b. option_cmp key_cmp a.0 b.0)) (positioned_made (λ (e : Placed). key_of π e.value) 0 (elections t)))

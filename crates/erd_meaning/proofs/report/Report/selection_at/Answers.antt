@@ -1,4 +1,5 @@
-use Rattle.erd_meaning.proofs.Common.{◌≡◌, Some, None, Option, option_map, sym, refl, ap, ◌∙◌, Data, view, Preference, selection_in, NameParts, ranked_name, PlacedName, NumberedName}
+use Rattle.erd_meaning.proofs.Common.{◌≡◌, Some, None, Option, option_map, sym, refl, ap, ◌∙◌, Data, view, Preference, selection_in, NameParts, ranked_name}
+use Rattle.erd_meaning.proofs.Common.{PlacedName, NumberedName}
 use Rattle.erd_meaning.proofs.report.Report.selection_at.Goals as goal
 
 -- a name without its ranks

@@ -9,7 +9,8 @@ returns c =
     let is = (one_resolved c.self.inside.prefer tree c.self.inside.indexes.items c.self.invariant).1.1 in
     record {
       tree = ap (λ (r : Judged). r.tree) c.self.view_is;
-      accepted = subst (λ (r : Judged). IsAccepted r.prefer (view tree)) c.self.view_is (accepted_by_phases c.self.inside.prefer (view tree) is.faultless is.identified is.referred is.told_apart);
+      accepted = subst (λ (r : Judged). IsAccepted r.prefer (view tree)) c.self.view_is
+          (accepted_by_phases c.self.inside.prefer (view tree) is.faultless is.identified is.referred is.told_apart);
       nests = is.shallow;
       is_tree = is.is_tree;
       whole = is.whole;

@@ -10,7 +10,13 @@ returns-then-len-eq0 c =
     let kept = map shown c.args.objects.now.objects in
     let tree = view c.args.tree.now in
     let walked : NamesWalked c.args.keys.now before after kept tree =
-    record { no_name = c.new.ensures.keys; no_fault = c.new-2.ensures.items; kept = c.requires.kept; identified = c.requires.identified; met = c.in_ok-meet_selections.ensures.met } in
+    record {
+      no_name = c.new.ensures.keys;
+      no_fault = c.new-2.ensures.items;
+      kept = c.requires.kept;
+      identified = c.requires.identified;
+      met = c.in_ok-meet_selections.ensures.met;
+    } in
     let none = sym c.len.ensures ∙ c.if-len-eq0.true in
     record {
       told_apart = no_twin_left c.args.keys.now before after kept tree walked c.of-twins.result c.of-twins.ensures none;
@@ -27,7 +33,13 @@ returns-else-len-eq0-clause-refused c =
     let kept = map shown c.args.objects.now.objects in
     let tree = view c.args.tree.now in
     let walked : NamesWalked c.args.keys.now before after kept tree =
-    record { no_name = c.new.ensures.keys; no_fault = c.new-2.ensures.items; kept = c.requires.kept; identified = c.requires.identified; met = c.in_ok-meet_selections.ensures.met } in
+    record {
+      no_name = c.new.ensures.keys;
+      no_fault = c.new-2.ensures.items;
+      kept = c.requires.kept;
+      identified = c.requires.identified;
+      met = c.in_ok-meet_selections.ensures.met;
+    } in
     let list = c.of-twins.result in
     let some : list ≢ [] = λ empty. let zero : length list ≡ 0 = ap length empty in c.if-len-eq0.false (c.len.ensures ∙ zero) in
     (twins_left c.args.keys.now before after kept tree walked list c.of-twins.ensures, some)

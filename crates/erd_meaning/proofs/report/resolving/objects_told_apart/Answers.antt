@@ -1,4 +1,5 @@
-use Rattle.erd_meaning.proofs.Common.{List, map, flat_map, Located, ◌≡◌, ◌≢◌, ◌^◌, ◌<◌, length, length-map, sym, subst, ap, ◌∙◌, view, [], all_located, met_all, met_of}
+use Rattle.erd_meaning.proofs.Common.{List, map, flat_map, Located, ◌≡◌, ◌≢◌, ◌^◌, ◌<◌, length, length-map, sym, subst, ap, ◌∙◌, view, [], all_located, met_all}
+use Rattle.erd_meaning.proofs.Common.{met_of}
 use Rattle.erd_index.specs.Salts.{fed, salt_start, start_of, unfed}
 use Rattle.erd_meaning.specs.SaltWrites.{Hashed, hashed_writes, report_start}
 use Rattle.erd_meaning.specs.declared.objects.collected.Found.{Found}
@@ -30,7 +31,8 @@ returns-then-len-eq0 c =
         elections_are = c.in_ok-objects.ensures.salted.elections_are ∙ start;
       };
       covers = keeps_each_index π t;
-      few = few_objects π t (subst (λ n. n < 2 ^ 64) (sym (length-map c.in_ok-found.found.items found) ∙ ap length c.in_ok-found.ensures) c.in_ok-objects.ensures.few);
+      few = few_objects π t (subst (λ n. n < 2 ^ 64) (sym (length-map c.in_ok-found.found.items found) ∙ ap length c.in_ok-found.ensures)
+          c.in_ok-objects.ensures.few);
       refused = tt;
     }
 

@@ -1,4 +1,5 @@
-use Rattle.erd_meaning.proofs.Common.{List, map, sym, ap, ◌∙◌, subst, err_from_is_err_and, view, Value, RefusedFor, SelectionFault, IsBounded, HaveDistinctKeys, kept_objects, IsIdentified, IsReferred, IsToldApart, shown, HeldObjects}
+use Rattle.erd_meaning.proofs.Common.{List, map, sym, ap, ◌∙◌, subst, err_from_is_err_and, view, Value, RefusedFor, SelectionFault, IsBounded, HaveDistinctKeys}
+use Rattle.erd_meaning.proofs.Common.{kept_objects, IsIdentified, IsReferred, IsToldApart, shown, HeldObjects}
 use Rattle.erd_meaning.proofs.accepted.DistinctKeys.{kept_distinct}
 use Rattle.erd_meaning.proofs.report.resolving.with_names.Goals as goal
 
@@ -24,7 +25,8 @@ indexed-requires-clause-resolved c = record {
   identified = subst (λ (v : Value). IsIdentified c.args.keys.now v) (sym c.tree-tree.ensures.tree) c.requires.identified;
   referred = subst IsReferred (sym c.tree-tree.ensures.tree) c.requires.referred;
   told_apart = c.in_ok-names.ensures.told_apart;
-  kept = ap (λ (os : HeldObjects). map shown os.objects) c.in_ok-objects.ensures ∙ c.requires.kept ∙ ap (λ (v : Value). kept_objects c.args.keys.now (view v)) (sym c.tree-tree.ensures.tree);
+  kept = ap (λ (os : HeldObjects). map shown os.objects) c.in_ok-objects.ensures ∙ c.requires.kept ∙ ap (λ (v : Value). kept_objects c.args.keys.now (view v))
+      (sym c.tree-tree.ensures.tree);
   named = c.in_ok-names.ensures.named;
 }
 

@@ -1,4 +1,5 @@
-use Rattle.erd_normal.proofs.Common.{List, [], ◌∷◌, ◌++◌, slice_get, option_map, sym, refl, ap, ◌∙◌, append_assoc, on_ok_weaker, begin_array, Data, items_of, view, contests, array_of, value_tokens, items_tokens, written_in_contest}
+use Rattle.erd_normal.proofs.Common.{List, [], ◌∷◌, ◌++◌, slice_get, option_map, sym, refl, ap, ◌∙◌, append_assoc, on_ok_weaker, begin_array, Data, items_of}
+use Rattle.erd_normal.proofs.Common.{view, contests, array_of, value_tokens, items_tokens, written_in_contest}
 use Rattle.erd_normal.proofs.ranks.WrittenTrees.{seen_value, unseen_value}
 use Rattle.erd_normal.proofs.texts.DueTokens.{array_written}
 use Rattle.erd_normal.proofs.objects.contest_selections.write_selections.Goals as goal
@@ -17,11 +18,10 @@ returns-in-Some c =
     let all = items_tokens (items_of (written_in_contest π t d)) in
     on_ok_weaker c.write_in_contest.result
     (λ written.
-    written
-    ∙ (ap (λ ts. ts ++ all) c.in_ok-begin_array.ensures
-    ∙ (append_assoc c.args.out.now (begin_array ∷ []) all
+    written ∙ (ap (λ ts. ts ++ all) c.in_ok-begin_array.ensures ∙ (append_assoc c.args.out.now (begin_array ∷ []) all
     ∙ ap (λ (ds : List Data). c.args.out.now ++ value_tokens (array_of ds))
-    (sym (seen_value (written_in_contest π t) [] (slice_get (contests t) c.args.position) d (sym c.object.ensures.object ∙ ap (option_map (λ v. view v.now)) c.in-Some.is))))))
+    (sym (seen_value (written_in_contest π t) [] (slice_get (contests t) c.args.position) d
+    (sym c.object.ensures.object ∙ ap (option_map (λ v. view v.now)) c.in-Some.is))))))
     c.write_in_contest.ensures
 
 pub returns-in-None : goal.returns-in-None
@@ -30,8 +30,8 @@ returns-in-None c =
     let t = view c.args.writer.now.tree in
     on_ok_weaker c.end_array.result
     (λ written.
-    written
-    ∙ (array_written c.args.out.now c.begin_array.new.self c.begin_array.new.self [] [] c.in_ok-begin_array.ensures refl refl
+    written ∙ (array_written c.args.out.now c.begin_array.new.self c.begin_array.new.self [] [] c.in_ok-begin_array.ensures refl refl
     ∙ ap (λ (ds : List Data). c.args.out.now ++ value_tokens (array_of ds))
-    (unseen_value (written_in_contest π t) (slice_get (contests t) c.args.position) (sym (ap (option_map (λ v. view v.now)) c.in-None.is) ∙ c.object.ensures.object))))
+    (unseen_value (written_in_contest π t) (slice_get (contests t) c.args.position)
+    (sym (ap (option_map (λ v. view v.now)) c.in-None.is) ∙ c.object.ensures.object))))
     c.end_array.ensures

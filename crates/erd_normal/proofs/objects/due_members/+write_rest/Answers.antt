@@ -9,7 +9,8 @@ returns t c =
     let first = c.in-Some.first.now in
     let low = c.in-Some.ensures.lookup.3.0 in
     let is = c.in-Some.ensures.lookup.1 in
-    first_of_all (apart_at c.args.due.now c.args.at first low is) (rise_from c.args.at c.args.due.now rise) c.args.out.now c.write_due.new.out c.write_rest.new.out
+    first_of_all (apart_at c.args.due.now c.args.at first low is) (rise_from c.args.at c.args.due.now rise) c.args.out.now
+    c.write_due.new.out c.write_rest.new.out
     c.in_ok-write_due.ensures
     (rest rise))
     c.write_rest.ensures

@@ -10,7 +10,8 @@ write_object_at-requires c =
     let t = view c.args.writer.now.tree in
     let f = c.args.family in
     let k = c.loop-position.position-index in
-    let x = next (objects_in_election π t f c.args.election) (objects f t) c.rising-position-items.result.now k c.rising-position-items.ensures c.loop-position-test.true (λ p e. (in_election_there π t f c.args.election k p e).1) in
+    let x = next (objects_in_election π t f c.args.election) (objects f t) c.rising-position-items.result.now k c.rising-position-items.ensures
+    c.loop-position-test.true (λ p e. (in_election_there π t f c.args.election k p e).1) in
     record { keyed = (in_election_there π t f c.args.election k _ x.at).0; there = slice_get_within (objects f t) _ x.entry x.there }
 
 pub loop-position-preserved : goal.loop-position-preserved
@@ -20,8 +21,10 @@ loop-position-preserved c =
     let f = c.args.family in
     let k = c.loop-position.position-index in
     let ps = objects_in_election π t f c.args.election in
-    let x = next ps (objects f t) c.rising-position-items.result.now k c.rising-position-items.ensures c.loop-position-test.true (λ p e. (in_election_there π t f c.args.election k p e).1) in
-    entry_written (λ o. written_object π t f o.0 o.1.value) ps k _ c.loop-position.out c.write_object_at.new.out _ x.at (c.in_ok-write_object_at.ensures x.entry x.there) c.loop-position.invariant
+    let x = next ps (objects f t) c.rising-position-items.result.now k c.rising-position-items.ensures c.loop-position-test.true
+    (λ p e. (in_election_there π t f c.args.election k p e).1) in
+    entry_written (λ o. written_object π t f o.0 o.1.value) ps k _ c.loop-position.out c.write_object_at.new.out _ x.at
+    (c.in_ok-write_object_at.ensures x.entry x.there) c.loop-position.invariant
 
 pub returns : goal.returns
 returns c =
@@ -29,6 +32,7 @@ returns c =
     let t = view c.args.writer.now.tree in
     let f = c.args.family in
     on_ok_weaker c.end_array.result
-    (entries_written (λ o. written_object π t f o.0 o.1.value) (objects_in_election π t f c.args.election) c.rising-position-items.result.now c.loop-position.position-index c.args.out.now c.begin_array.new.self c.loop-position.out _
+    (entries_written (λ o. written_object π t f o.0 o.1.value) (objects_in_election π t f c.args.election) c.rising-position-items.result.now
+    c.loop-position.position-index c.args.out.now c.begin_array.new.self c.loop-position.out _
     c.rising-position-items.ensures c.loop-position-test.false c.in_ok-begin_array.ensures c.loop-position.invariant)
     c.end_array.ensures

@@ -7,9 +7,7 @@ returns-in-Some g c =
     let built = normal_object_with (g.R.MemberRule.value_of c.args.rule.now) (class_of_object c.args.role (view c.args.value.now)) (view c.args.value.now) in
     on_ok_weaker c.write_object.result
     (λ written.
-    written
-    ∙ ap (λ d. c.args.out.now ++ value_tokens d)
-    (put_id c.as_str.result.now built
-    ∙ (ap (λ s. with_id (Some s) built) c.as_str.ensures.value
+    written ∙ ap (λ d. c.args.out.now ++ value_tokens d)
+    (put_id c.as_str.result.now built ∙ (ap (λ s. with_id (Some s) built) c.as_str.ensures.value
     ∙ ap (λ id. with_id (option_map (λ text. text.bytes) id) built) (sym c.in-Some.is))))
     c.write_object.ensures

@@ -1,4 +1,5 @@
-use Rattle.erd_normal.proofs.Common.{◌≡◌, ◌++◌, slice_get, option_map, sym, ap, ◌∙◌, ap₂, on_ok_weaker, Data, view, role, class_of_object, key_of, rank_of, objects, canonical_id, normal_object_with, with_id, value_tokens, written_object_value}
+use Rattle.erd_normal.proofs.Common.{◌≡◌, ◌++◌, slice_get, option_map, sym, ap, ◌∙◌, ap₂, on_ok_weaker, Data, view, role, class_of_object, key_of, rank_of}
+use Rattle.erd_normal.proofs.Common.{objects, canonical_id, normal_object_with, with_id, value_tokens, written_object_value}
 use Rattle.erd_normal.proofs.ranks.WrittenTrees.{found_below, found_key, found_value}
 use Rattle.erd_normal.proofs.objects.family_objects.write_object_at.Goals as goal
 
@@ -23,4 +24,5 @@ returns c =
 
 pub unreachable-requires : goal.unreachable-requires
 unreachable-requires c =
-    found_below (objects c.args.family (view c.args.writer.now.tree)) c.args.position c.requires.there (sym (ap (option_map (λ v. view v.now)) c.in-None.is) ∙ c.object.ensures.object)
+    found_below (objects c.args.family (view c.args.writer.now.tree)) c.args.position c.requires.there
+    (sym (ap (option_map (λ v. view v.now)) c.in-None.is) ∙ c.object.ensures.object)

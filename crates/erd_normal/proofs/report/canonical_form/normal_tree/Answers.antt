@@ -6,7 +6,8 @@ use Rattle.erd_normal.proofs.report.canonical_form.normal_tree.Goals as goal
 same_form : (c : goal.After-drop-text) → c.in_ok-text.ensures.text.tree ≡ view c.in-Ok.tree
 same_form c =
     let t = view c.args.report.now.tree in
-    read_form c.args.report.now.prefer t (view c.in-Ok.tree) c.in_ok-text.text.items c.in_ok-text.ensures.text c.in_ok-text.ensures.nests (ap read (sym c.deref.ensures.value) ∙ c.in-Ok.ensures.ok.1)
+    read_form c.args.report.now.prefer t (view c.in-Ok.tree) c.in_ok-text.text.items c.in_ok-text.ensures.text c.in_ok-text.ensures.nests
+    (ap read (sym c.deref.ensures.value) ∙ c.in-Ok.ensures.ok.1)
 
 pub returns-in-Ok-clause-canonical : goal.returns-in-Ok-clause-canonical
 returns-in-Ok-clause-canonical c = subst (IsCanonicalFormOf c.args.report.now.prefer (view c.args.report.now.tree)) (same_form c) c.in_ok-text.ensures.text.form

@@ -14,10 +14,12 @@ returns c =
     let v = view c.in-Some.election.now in
     on_ok_weaker c.write_object.result
     (λ written e at.
-    let same : v ≡ e.value = found_value (slice_get (elections t) i) v e (sym (ap (option_map (λ v. view v.now)) c.in-Some.is) ∙ c.election.ensures.election) at in
+    let same : v ≡ e.value = found_value (slice_get (elections t) i) v e (sym (ap (option_map (λ v. view v.now)) c.in-Some.is) ∙ c.election.ensures.election)
+    at in
     written ∙ ap (λ (d : Data). c.args.out.now ++ value_tokens d) (put_none (written_election π t i v) ∙ ap (written_election π t i) same))
     c.write_object.ensures
 
 pub unreachable-requires : goal.unreachable-requires
 unreachable-requires c =
-    found_below (elections (view c.args.writer.now.tree)) c.args.position c.requires.there (sym (ap (option_map (λ v. view v.now)) c.in-None.is) ∙ c.election.ensures.election)
+    found_below (elections (view c.args.writer.now.tree)) c.args.position c.requires.there
+    (sym (ap (option_map (λ v. view v.now)) c.in-None.is) ∙ c.election.ensures.election)

@@ -1,4 +1,5 @@
-use Rattle.erd_normal.proofs.Common.{◌++◌, ap, ◌∙◌, subst, on_ok_weaker, view, role, IsTree, class_of_object, IsAccepted, put_in, normal_object_with, envelope_values, value_tokens, written_report_value}
+use Rattle.erd_normal.proofs.Common.{◌++◌, ap, ◌∙◌, subst, on_ok_weaker, view, role, IsTree, class_of_object, IsAccepted, put_in, normal_object_with}
+use Rattle.erd_normal.proofs.Common.{envelope_values, value_tokens, written_report_value}
 use Rattle.erd_normal.proofs.view.WrittenViews.{written_is_view}
 use Rattle.erd_normal.proofs.texts.DueTokens.{put_envelope}
 use Rattle.erd_normal.proofs.report.report_text.write_report.Goals as goal

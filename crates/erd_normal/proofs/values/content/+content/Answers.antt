@@ -1,4 +1,6 @@
-use Rattle.erd_normal.proofs.Common.{◌≡◌, ◌+◌, ◌++◌, drop, Option, sym, ap, ◌∙◌, or_parts, option_map_or, member as member_of, view, items_view, members_view, has_float, items_have_float, MemberKind, on_ok_weaker, Entry, normal_node_value, normal_content, normal_nodes, normal_node, normal_node_members, value_tokens, items_tokens, members_tokens, member_tokens}
+use Rattle.erd_normal.proofs.Common.{◌≡◌, ◌+◌, ◌++◌, drop, Option, sym, ap, ◌∙◌, or_parts, option_map_or, member as member_of, view, items_view, members_view}
+use Rattle.erd_normal.proofs.Common.{has_float, items_have_float, MemberKind, on_ok_weaker, Entry, normal_node_value, normal_content, normal_nodes, normal_node}
+use Rattle.erd_normal.proofs.Common.{normal_node_members, value_tokens, items_tokens, members_tokens, member_tokens}
 use Rattle.erd_text.proofs.WholeValues.{whole_first, whole_rest}
 use Rattle.erd_normal.proofs.inside.Members.{node_value}
 use Rattle.erd_text.proofs.WrittenTokens.{then_rest}
@@ -33,10 +35,13 @@ write_node_members-loop-name-preserved t c whole =
     let first = whole_first left rest entry c.in-Some.ensures.steps before.0 in
     let written : c.write_node_member.new.out ≡ c.loop-name.out ++ member_tokens name (value name member) =
     c.in_ok-write_node_member.ensures first
-    ∙ ap (λ (k : Option MemberKind). c.loop-name.out ++ member_tokens name (normal_node_value π report k member (normal_content π report member))) c.kind_in.ensures in (
+    ∙ ap (λ (k : Option MemberKind). c.loop-name.out ++ member_tokens name (normal_node_value π report k member (normal_content π report member)))
+    c.kind_in.ensures in (
       whole_rest left rest entry c.in-Some.ensures.steps before.0,
-      member_or_none name (value name member) (normal_node_members π report c.args.class (members_view rest)) c.loop-name.out c.write_node_member.new.out _ written
-          (ap (λ n. c.loop-name.out ++ members_tokens (option_map_or (λ v. member_of n v (normal_node_members π report c.args.class (members_view rest))) (value n member) (normal_node_members π report c.args.class (members_view rest)))) c.as_str-name.ensures.value
+      member_or_none name (value name member) (normal_node_members π report c.args.class (members_view rest)) c.loop-name.out
+          c.write_node_member.new.out _ written
+          (ap (λ n. c.loop-name.out ++ members_tokens (option_map_or (λ v. member_of n v (normal_node_members π report c.args.class (members_view rest)))
+          (value n member) (normal_node_members π report c.args.class (members_view rest)))) c.as_str-name.ensures.value
           ∙ (ap (λ es. c.loop-name.out ++ members_tokens (normal_node_members π report c.args.class (members_view es))) (sym c.in-Some.ensures.steps)
           ∙ before.1)),
     )
@@ -52,7 +57,8 @@ write_nodes-loop-item-preserved t c whole =
     let left = entries_from vs i v c.loop-item-test.true c.item-item.is in
     let parts = or_parts (has_float (view v)) (items_have_float (items_view (drop (i + 1) vs))) (ap items_have_float (sym left) ∙ before.0) in (
       parts.1,
-      then_rest c.loop-item.out (value_tokens (normal_node π report (view v))) c.write_node.new.out (items_tokens (normal_nodes π report (items_view (drop (i + 1) vs)))) _
+      then_rest c.loop-item.out (value_tokens (normal_node π report (view v))) c.write_node.new.out
+          (items_tokens (normal_nodes π report (items_view (drop (i + 1) vs)))) _
           (c.in_ok-write_node.ensures parts.0)
           (ap (λ ds. c.loop-item.out ++ items_tokens (normal_nodes π report ds)) (sym left) ∙ before.1),
     )

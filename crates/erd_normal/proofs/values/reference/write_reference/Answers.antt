@@ -8,7 +8,6 @@ returns c =
     let t = view c.args.writer.now.tree in
     subst (λ (d : Data). OnOk c.write_reference_to.result (c.write_reference_to.new.out ≡ c.args.out.now ++ value_tokens d))
     (ap string
-    (ap (id_of_rank c.args.family) c.rank_named-rank.ensures
-    ∙ (text_named π t c.args.family c.text_of.result.now
+    (ap (id_of_rank c.args.family) c.rank_named-rank.ensures ∙ (text_named π t c.args.family c.text_of.result.now
     ∙ ap (normal_id π t c.args.family) c.text_of.ensures)))
     c.write_reference_to.ensures

@@ -9,4 +9,5 @@ rank_of-requires c = record {
 }
 
 pub returns-in_default : goal.returns-in_default
-returns-in_default c = c.rank_of.ensures c.args.id.now (subst (λ (r : Judged). FindsId (view r.tree) c.args.id.now c.target_of.result) c.self.view_is c.target_of.ensures)
+returns-in_default c =
+    c.rank_of.ensures c.args.id.now (subst (λ (r : Judged). FindsId (view r.tree) c.args.id.now c.target_of.result) c.self.view_is c.target_of.ensures)

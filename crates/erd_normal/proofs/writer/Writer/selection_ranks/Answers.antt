@@ -13,9 +13,11 @@ pub returns-else-is_same : goal.returns-else-is_same
 returns-else-is_same c =
     let r = c.self.inside.report.now in
     subst (λ (r : Judged). string [] ≡ normal_selection_reference r.prefer (view r.tree) (string c.args.id.now)) c.self.view_is
-    (unselected r.prefer (view r.tree) c.args.id.now (elsewhere (view r.tree) family.Selection c.args.id.now c.in-Some.found c.in-Some.position c.in-Some.ensures (sym c.is_same.ensures ∙ c.if-is_same.false)))
+    (unselected r.prefer (view r.tree) c.args.id.now (elsewhere (view r.tree) family.Selection c.args.id.now c.in-Some.found c.in-Some.position
+    c.in-Some.ensures (sym c.is_same.ensures ∙ c.if-is_same.false)))
 
 pub returns-in-None : goal.returns-in-None
 returns-in-None c =
     let r = c.self.inside.report.now in
-    subst (λ (r : Judged). string [] ≡ normal_selection_reference r.prefer (view r.tree) (string c.args.id.now)) c.self.view_is (unselected r.prefer (view r.tree) c.args.id.now (nowhere (view r.tree) family.Selection c.args.id.now c.in-None.ensures))
+    subst (λ (r : Judged). string [] ≡ normal_selection_reference r.prefer (view r.tree) (string c.args.id.now)) c.self.view_is
+    (unselected r.prefer (view r.tree) c.args.id.now (nowhere (view r.tree) family.Selection c.args.id.now c.in-None.ensures))

@@ -1,4 +1,5 @@
-use Rattle.erd_normal.proofs.Common.{◌≡◌, ℕ, ◌<◌, ◌≤◌, [], ◌∷◌, ◌++◌, map, length, get_or, take, ◌==◌, filter, sym, ap, ◌∙◌, subst, inl, inr, arith, view, Placed, elections, objects, take-length, cases_lt, in_order_of_keys, holding_election, list_seen}
+use Rattle.erd_normal.proofs.Common.{◌≡◌, ℕ, ◌<◌, ◌≤◌, [], ◌∷◌, ◌++◌, map, length, get_or, take, ◌==◌, filter, sym, ap, ◌∙◌, subst, inl, inr, arith, view}
+use Rattle.erd_normal.proofs.Common.{Placed, elections, objects, take-length, cases_lt, in_order_of_keys, holding_election, list_seen}
 use Rattle.std.proofs.lemmas.List.{get_or_default}
 use Rattle.erd_normal.proofs.lists.Lists.{kept_map}
 use Rattle.erd_normal.proofs.ranks.WrittenTrees.{in_order, lent_positions, none_in_election}
@@ -20,8 +21,11 @@ loop-position-preserved c =
     let which : c.holding_election-election.result ≡ at e = c.holding_election-election.ensures in
     record {
       count = c.in_ok-put_in_list.ensures.count ∙ c.loop-position.invariant.count;
-      filled = λ i. one_put at c.rising-position-items.result.now many k e c.loop-position-test.true (get_or_default c.rising-position-items.result.now k 0 _ c.loop-position-test.true) i old new (c.loop-position.invariant.filled i)
-          (λ low. subst (λ n. new n ≡ old n ++ e ∷ []) which (c.in_ok-put_in_list.ensures.here (subst (λ n. n < length c.loop-position.lists.items) (sym which) (subst (λ n. at e < n) (sym c.loop-position.invariant.count) low))))
+      filled = λ i. one_put at c.rising-position-items.result.now many k e c.loop-position-test.true
+          (get_or_default c.rising-position-items.result.now k 0 _ c.loop-position-test.true) i old new (c.loop-position.invariant.filled i)
+          (λ low. subst (λ n. new n ≡ old n ++ e ∷ []) which
+          (c.in_ok-put_in_list.ensures.here
+          (subst (λ n. n < length c.loop-position.lists.items) (sym which) (subst (λ n. at e < n) (sym c.loop-position.invariant.count) low))))
           (λ j other. c.in_ok-put_in_list.ensures.elsewhere j (λ same. other (same ∙ which)));
     }
 

@@ -6,5 +6,6 @@ abbrev pub invariant-loop-position : goal.invariant-loop-position
 invariant-loop-position l = record {
   count : length l.lists.items ≡ length (elections (view l.report.tree));
   filled : (i : ℕ) → i < length (elections (view l.report.tree))
-      → list_seen l.lists.items i ≡ put_in (holding_election (view l.report.tree) l.family) l.position-items (length (elections (view l.report.tree))) l.position-index i;
+      → list_seen l.lists.items i ≡ put_in (holding_election (view l.report.tree) l.family) l.position-items
+      (length (elections (view l.report.tree))) l.position-index i;
 }

@@ -1,4 +1,5 @@
-use Rattle.erd_normal.proofs.Common.{◌≡◌, ◌<◌, ◌≤◌, [], ◌∷◌, ◌++◌, map, length, slice_get, Some, Option, option_map, option_copied, ap, ◌∙◌, arith, take_all, map-append, length-map, slice_get-map, view, at_low, positioned}
+use Rattle.erd_normal.proofs.Common.{◌≡◌, ◌<◌, ◌≤◌, [], ◌∷◌, ◌++◌, map, length, slice_get, Some, Option, option_map, option_copied, ap, ◌∙◌, arith, take_all}
+use Rattle.erd_normal.proofs.Common.{map-append, length-map, slice_get-map, view, at_low, positioned}
 use Rattle.erd_meaning.specs.NumberedNames.{RankedParts}
 use Rattle.erd_meaning.specs.RankedNames.{ranked_name}
 use Rattle.erd_meaning.proofs.selections.RankedReports.{ranked_name_of}
@@ -21,10 +22,8 @@ loop-index-preserved c =
     let here : slice_get ks i ≡ Some k = slice_get-map (ranked_name_of π t) ds i ∙ ap (option_map (ranked_name_of π t)) hit.1 in
     let name : option_copied c.name_at.result ≡ k = c.name_at.ensures ∙ ap (option_map (ranked_name π t)) (c.requires.named i hit.0 hit.1) in
     let seen = map see c.loop-index.names.items in
-    ap (map see) c.in_ok-push.ensures.items
-    ∙ (map-append see c.loop-index.names.items _
-    ∙ (ap (λ (n : Option RankedParts). seen ++ (n, i) ∷ []) name
-    ∙ one_placed ks i k seen here c.loop-index.invariant))
+    ap (map see) c.in_ok-push.ensures.items ∙ (map-append see c.loop-index.names.items _
+    ∙ (ap (λ (n : Option RankedParts). seen ++ (n, i) ∷ []) name ∙ one_placed ks i k seen here c.loop-index.invariant))
 
 pub returns : goal.returns
 returns c =

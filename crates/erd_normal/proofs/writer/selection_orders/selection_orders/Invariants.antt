@@ -4,7 +4,8 @@ use Rattle.erd_normal.proofs.writer.selection_orders.selection_orders.Given as g
 
 abbrev pub invariant-loop-index : goal.invariant-loop-index
 invariant-loop-index l = record {
-  rising : map (λ positions. positions.items) l.rising.items ≡ map (rising_selections l.report.prefer (view l.report.tree)) (take l.index (contest_values (view l.report.tree)));
+  rising : map (λ positions. positions.items) l.rising.items ≡ map (rising_selections l.report.prefer (view l.report.tree))
+      (take l.index (contest_values (view l.report.tree)));
   ranks : l.ranks.items ≡ flat_map (ranks_in l.report.prefer (view l.report.tree)) (take l.index (contest_values (view l.report.tree)));
   start : l.start ≡ length (flat_map selections_of (take l.index (contest_values (view l.report.tree))));
 }

@@ -10,7 +10,8 @@ invariant-loop-name g l =
     record {
       count : count_left l.self ≤ count_left l.initial.self;
       stand : StandInPair d e l.self;
-      left : (m n : MemberMap) (found : List (List ℕ)) → IsMapOf d m → IsMapOf e n → DecideNames (λ pair answer. goal.F-post g l.is_same pair (Ok answer)) d e m n → AreFound m n found l.initial.self → AreFound m n found l.self;
+      left : (m n : MemberMap) (found : List (List ℕ)) → IsMapOf d m → IsMapOf e n → DecideNames (λ pair answer. goal.F-post g l.is_same pair (Ok answer)) d e m
+          n → AreFound m n found l.initial.self → AreFound m n found l.self;
     }
 
 abbrev pub decreases-loop-name : goal.decreases-loop-name

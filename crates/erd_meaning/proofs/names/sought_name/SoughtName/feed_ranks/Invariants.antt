@@ -4,4 +4,5 @@ use Rattle.erd_meaning.proofs.names.sought_name.SoughtName.feed_ranks.Given as g
 
 abbrev pub invariant-loop-key : goal.invariant-loop-key
 invariant-loop-key l =
-    l.hasher ≡ fold write l.initial.hasher (flat_map usize (map (fed_rank (map shown l.self.objects.now.objects) (family_chosen l.self.name.now.class)) (take l.key-index l.self.name.now.keys)))
+    l.hasher ≡ fold write l.initial.hasher
+    (flat_map usize (map (fed_rank (map shown l.self.objects.now.objects) (family_chosen l.self.name.now.class)) (take l.key-index l.self.name.now.keys)))

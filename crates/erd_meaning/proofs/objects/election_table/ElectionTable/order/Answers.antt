@@ -3,10 +3,12 @@ use Rattle.erd_meaning.proofs.selections.PositionedKeys.{keys_placed}
 use Rattle.erd_meaning.proofs.objects.election_table.ElectionTable.order.Goals as goal
 
 pub of-requires-clause-placed : goal.of-requires-clause-placed
-of-requires-clause-placed c = c.in_ok-lent_keys.ensures ∙ ap (positioned 0) (sym (keys_placed c.in_ok-lent_keys.field-0.items c.args.self.now.keys c.in_ok-lent_keys.ensures))
+of-requires-clause-placed c = c.in_ok-lent_keys.ensures ∙ ap (positioned 0)
+    (sym (keys_placed c.in_ok-lent_keys.field-0.items c.args.self.now.keys c.in_ok-lent_keys.ensures))
 
 pub of-requires-clause-distinct : goal.of-requires-clause-distinct
-of-requires-clause-distinct c = subst AreDistinct (sym (keys_placed c.in_ok-lent_keys.field-0.items c.args.self.now.keys c.in_ok-lent_keys.ensures)) c.requires.distinct
+of-requires-clause-distinct c = subst AreDistinct (sym (keys_placed c.in_ok-lent_keys.field-0.items c.args.self.now.keys c.in_ok-lent_keys.ensures))
+    c.requires.distinct
 
 pub returns : goal.returns
 returns c =

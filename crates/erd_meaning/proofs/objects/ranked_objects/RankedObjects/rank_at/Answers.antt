@@ -12,4 +12,5 @@ returns c =
     ∙ ap (λ (order : Order). slice_get order.ranks.items i) c.get.ensures
     ∙ ap (λ ranks. slice_get ranks i) (ranks_of_order ks f (entry_of c.self.inside.orders f) (c.self.invariant f c.requires.keyed))
     ∙ slice_get-map (λ (k : Kept). rank_among ks f k.key) (those_of f ks) i
-    ∙ ap (λ (os : HeldObjects). option_map (λ (k : Kept). rank_among (map shown os.objects) f k.key) (slice_get (those_of f (map shown os.objects)) i)) c.self.view_is
+    ∙ ap (λ (os : HeldObjects). option_map (λ (k : Kept). rank_among (map shown os.objects) f k.key) (slice_get (those_of f (map shown os.objects)) i))
+    c.self.view_is

@@ -1,4 +1,5 @@
-use Rattle.erd_meaning.proofs.Common.{◌≡◌, List, map, slice_get, Some, option_map, sym, refl, ap, ◌∙◌, slice_get-map, has_keys, family_chosen, number_of_key, those_of, Kept, rank_among, shown, HeldObjects}
+use Rattle.erd_meaning.proofs.Common.{◌≡◌, List, map, slice_get, Some, option_map, sym, refl, ap, ◌∙◌, slice_get-map, has_keys, family_chosen, number_of_key}
+use Rattle.erd_meaning.proofs.Common.{those_of, Kept, rank_among, shown, HeldObjects}
 use Rattle.erd_meaning.proofs.selections.RankedKeys.{rank_found}
 use Rattle.erd_meaning.proofs.selections.RankedReports.{chosen_keyed}
 use Rattle.erd_meaning.proofs.objects.ranked_objects.RankedObjects.rank_of.Goals as goal
@@ -18,5 +19,4 @@ returns c =
     ∙ sym c.position_of_key.ensures ∙ c.in_ok-index.was in
     c.rank_at.ensures
     ∙ ap (λ g. option_map (λ (k : Kept). rank_among ks g k.key) (slice_get (those_of g ks) i)) c.family_chosen-family.ensures
-    ∙ sym (slice_get-map rank (those_of f ks) i)
-    ∙ rank_found ks f c.args.key.now i (map rank (those_of f ks)) refl found
+    ∙ sym (slice_get-map rank (those_of f ks) i) ∙ rank_found ks f c.args.key.now i (map rank (those_of f ks)) refl found

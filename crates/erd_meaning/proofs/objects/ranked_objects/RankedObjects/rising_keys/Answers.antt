@@ -1,4 +1,5 @@
-use Rattle.erd_meaning.proofs.Common.{◌≡◌, List, map, sym, ap, ◌∙◌, IfOk-weaker, option_cmp, key_cmp, rising_list, seen_keys, lent_key_cmp, key_at_among, rising_keys_among, shown, HeldObjects}
+use Rattle.erd_meaning.proofs.Common.{◌≡◌, List, map, sym, ap, ◌∙◌, IfOk-weaker, option_cmp, key_cmp, rising_list, seen_keys, lent_key_cmp, key_at_among}
+use Rattle.erd_meaning.proofs.Common.{rising_keys_among, shown, HeldObjects}
 use Rattle.erd_meaning.proofs.selections.PositionedKeys.{KeyPosition, from_positions, rising_seen}
 use Rattle.erd_meaning.proofs.objects.ranked_objects.RankedObjects.rising_keys.Goals as goal
 
@@ -21,5 +22,6 @@ returns-in_default c =
     c.rising.ensures ∙ ap (λ (os : HeldObjects). map (λ (p : KeyPosition). p.1) (rising_keys_among (map shown os.objects) f)) (sym c.self.view_is) in
     IfOk-weaker c.keys_at.result (λ keys. seen_keys keys.items ≡ map (λ i. (key_at_among ks f i, i)) c.rising.result.now)
     (λ keys. seen_keys keys.items ≡ rising_keys_among (map shown c.args.self.now.objects) f)
-    (λ keys is. is ∙ ap (map (λ i. (key_at_among ks f i, i))) positions ∙ from_positions ks f ∙ ap (λ (os : HeldObjects). rising_keys_among (map shown os.objects) f) c.self.view_is)
+    (λ keys is. is ∙ ap (map (λ i. (key_at_among ks f i, i))) positions ∙ from_positions ks f
+    ∙ ap (λ (os : HeldObjects). rising_keys_among (map shown os.objects) f) c.self.view_is)
     c.keys_at.ensures

@@ -1,4 +1,5 @@
-use Rattle.erd_meaning.proofs.Common.{ℕ, List, [], ◌∷◌, ◌++◌, map, ◌==◌, vec_items, sym, ap, ◌∙◌, subst, true≢false, append_assoc, append-nil, IsDistinct, view, shown}
+use Rattle.erd_meaning.proofs.Common.{ℕ, List, [], ◌∷◌, ◌++◌, map, ◌==◌, vec_items, sym, ap, ◌∙◌, subst, true≢false, append_assoc, append-nil, IsDistinct, view}
+use Rattle.erd_meaning.proofs.Common.{shown}
 use Rattle.erd_meaning.proofs.references.ClearArrays.{clear_array, none_left, placed_left}
 use Rattle.erd_meaning.proofs.report.reference_judge.ReferenceJudge.are_clear.Goals.{then-is_set+in_ok-push, else-is_set}
 use Rattle.erd_meaning.proofs.report.reference_judge.ReferenceJudge.are_clear.Goals as goal
@@ -18,9 +19,11 @@ loop-item-preserved c = (
       let n = c.in-Some.position in
       let before = c.loop-item.positions.items in
       c.loop-item.invariant.1 (n ∷ ns)
-      (placed_left (map shown c.args.self.now.objects.now.objects) (view c.args.object.now) c.args.family c.args.items.now c.loop-item.item-index c.item-item.result n ns c.loop-item-test.true c.item-item.is c.in-Some.ensures.clear placed)
+      (placed_left (map shown c.args.self.now.objects.now.objects) (view c.args.object.now) c.args.family c.args.items.now c.loop-item.item-index
+      c.item-item.result n ns c.loop-item-test.true c.item-item.is c.in-Some.ensures.clear placed)
       (λ t. elim c.if-is_set.branch [
-        | then-is_set+in_ok-push w ↦ subst (IsDistinct (λ a b. a == b)) (ap (λ (ms : List ℕ). ms ++ ns) (ap vec_items w.positions-is ∙ w.in_ok-push.ensures.items) ∙ append_assoc before (n ∷ []) ns) (differ t)
+        | then-is_set+in_ok-push w ↦ subst (IsDistinct (λ a b. a == b))
+            (ap (λ (ms : List ℕ). ms ++ ns) (ap vec_items w.positions-is ∙ w.in_ok-push.ensures.items) ∙ append_assoc before (n ∷ []) ns) (differ t)
         | else-is_set w ↦ absurd (true≢false (sym t ∙ w.if-is_set.false))
       ]),
 )
@@ -28,5 +31,6 @@ loop-item-preserved c = (
 pub returns : goal.returns
 returns c distinct =
     let before = c.loop-item.positions.items in
-    c.loop-item.invariant.1 [] (none_left (map shown c.args.self.now.objects.now.objects) (view c.args.object.now) c.args.family c.args.items.now c.loop-item.item-index c.loop-item-test.false)
+    c.loop-item.invariant.1 [] (none_left (map shown c.args.self.now.objects.now.objects) (view c.args.object.now) c.args.family c.args.items.now
+    c.loop-item.item-index c.loop-item-test.false)
     (λ t. subst (IsDistinct (λ a b. a == b)) (sym (append-nil before)) (c.are_distinct.ensures distinct))

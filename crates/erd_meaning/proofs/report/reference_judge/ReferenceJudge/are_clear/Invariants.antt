@@ -7,4 +7,5 @@ invariant-loop-item l =
     let ks = map shown l.self.objects.now.objects in
     let outer = view l.object in
     IfSome l.home (IsHome ks outer)
-    × ((ns : List ℕ) → ArePlaced ks outer l.family (map view (drop l.item-index l.items)) ns → (l.is_set ≡ true → IsDistinct (λ a b. a == b) (l.positions.items ++ ns)) → AreClear ks outer l.family l.is_set (items_view l.items))
+    × ((ns : List ℕ) → ArePlaced ks outer l.family (map view (drop l.item-index l.items)) ns
+    → (l.is_set ≡ true → IsDistinct (λ a b. a == b) (l.positions.items ++ ns)) → AreClear ks outer l.family l.is_set (items_view l.items))

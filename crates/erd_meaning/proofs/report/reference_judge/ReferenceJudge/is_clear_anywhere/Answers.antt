@@ -1,4 +1,5 @@
-use Rattle.erd_meaning.proofs.Common.{◌≡◌, false, ◌==◌, ◌&&◌, map, sym, refl, ap, ◌∙◌, family_number, Family, family, shown, is_selection_family, is_selection_elsewhere}
+use Rattle.erd_meaning.proofs.Common.{◌≡◌, false, ◌==◌, ◌&&◌, map, sym, refl, ap, ◌∙◌, family_number, Family, family, shown, is_selection_family}
+use Rattle.erd_meaning.proofs.Common.{is_selection_elsewhere}
 use Rattle.erd_meaning.proofs.finding.Pushed.{families_same}
 use Rattle.erd_meaning.proofs.references.SilentWalks.{clear_of_family}
 use Rattle.erd_meaning.proofs.report.reference_judge.ReferenceJudge.is_clear_anywhere.Goals as goal

@@ -8,6 +8,5 @@ returns-else-holds_objects c =
     let t = view c.args.self.now.writer.now.tree in
     let d = view c.args.member.now in
     let other : holds_objects c.args.kind ≡ false = sym c.holds_objects.ensures ∙ c.if-holds_objects.false in
-    c.is_kept.ensures π t
-    ∙ (ap (λ b. if b then not (is_empty_array d) else is_some (normal_value π t c.args.kind d)) (sym other)
+    c.is_kept.ensures π t ∙ (ap (λ b. if b then not (is_empty_array d) else is_some (normal_value π t c.args.kind d)) (sym other)
     ∙ sym (kept_in_object π t c.args.self.now.position c.args.kind d))

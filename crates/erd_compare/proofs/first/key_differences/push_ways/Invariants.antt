@@ -1,6 +1,6 @@
 use Rattle.erd_compare.proofs.Common.{◌≡◌, ◌++◌}
 use Rattle.erd_compare.proofs.differing.PartLists.{named, named_from}
-use Rattle.erd_compare.proofs.first.told.push_ways.Given as goal
+use Rattle.erd_compare.proofs.first.key_differences.push_ways.Given as goal
 
 -- with those at the names that are left, all are appended
 abbrev pub invariant-loop-name : goal.invariant-loop-name

@@ -27,7 +27,8 @@ impl<'a> Report<'a> {
     /// ```
     pub fn rank_at(&self, family: Family, position: usize) -> Option<usize>
         requires keyed { has_keys family ≡ true }
-        ensures { result ≡ option_map (λ k. rank_of self.now.prefer (view self.now.tree) family (Some k)) (key_in self.now.prefer family (view self.now.tree) position) }
+        ensures { result ≡ option_map (λ k. rank_of self.now.prefer (view self.now.tree) family (Some k)) (key_in self.now.prefer family
+            (view self.now.tree) position) }
     {
         self.indexes().objects.rank_at(family, position)
     }
@@ -50,7 +51,8 @@ impl<'a> Report<'a> {
     /// assert_eq!(rt; report.election_rank_at(0), Some(0));
     /// ```
     pub fn election_rank_at(&self, position: usize) -> Option<usize>
-        ensures { result ≡ option_map (λ e. election_rank_of self.now.prefer (view self.now.tree) (key_of self.now.prefer e.value)) (slice_get (elections (view self.now.tree)) position) }
+        ensures { result ≡ option_map (λ e. election_rank_of self.now.prefer (view self.now.tree) (key_of self.now.prefer e.value))
+            (slice_get (elections (view self.now.tree)) position) }
     {
         self.elections().order.rank_at(position)
     }

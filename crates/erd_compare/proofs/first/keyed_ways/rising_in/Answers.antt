@@ -1,5 +1,5 @@
 use Rattle.erd_compare.proofs.Common.{◌∙◌, subst, ap₂, view, Judged, rising_positions, AreCommonRanks, keys_in_role}
-use Rattle.erd_compare.proofs.first.tables.rising_in.Goals as goal
+use Rattle.erd_compare.proofs.first.keyed_ways.rising_in.Goals as goal
 
 pub returns : goal.returns
 returns c =

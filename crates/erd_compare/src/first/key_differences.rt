@@ -2,7 +2,7 @@ ghost use Rattle.std.specs.Prelude.{◌≡◌, ◌++◌, ◌∷◌, [], option_c
 ghost use Rattle.erd_compare.specs.code.DifferingParts.{differences_at};
 
 use crate::difference::{Difference, How, Part};
-use crate::first::tables::KeyedWays;
+use crate::first::keyed_ways::KeyedWays;
 use crate::objects::ways::Ways;
 use erd_meaning::Key;
 use std::alloc::{AllocError, Global};
