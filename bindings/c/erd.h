@@ -153,9 +153,9 @@ enum erd_listing {
 };
 
 /* A list that erd_open opens, erd_next hands out piece by piece, and erd_close frees. A call for a piece judges its reports each
- * time. A list keeps what was judged: up to `room` bytes of its text and one entry more, and of the first judging 64
- * mebibytes at most. So it is judged once for each `room` bytes. Where a name in a line has a line feed, these entries are judged
- * as data too, which tells where the lines end; this takes up to as much memory again for as long. */
+ * time. A list keeps what was judged: up to `room` bytes of its text and one entry more. So it is judged once for each `room`
+ * bytes. Where a name in a line has a line feed, these entries are judged as data too, which tells where the lines end; this takes
+ * up to as much memory again for as long. */
 struct erd_list;
 
 /* Opens a list. It is judged when its first piece is taken. `left` is the report, or the left one of two; of one report `right` is

@@ -62,18 +62,13 @@ static bool are_apart(const struct erd_list *list) {
     return lines == list->kept - list->next;
 }
 
-enum { MOST_AT_FIRST = 4 * ROOM_FOR_LIST, MOST_AT_ONCE = 16 * ROOM_FOR_LIST };
-
-/* How many bytes of entries a judging keeps: all that the list may, but the first no more than most lists have. */
-static size_t enough_at_once(const struct erd_list *list) {
-    return list->next == 0 && list->room > MOST_AT_FIRST ? MOST_AT_FIRST : list->room;
-}
+enum { MOST_AT_ONCE = 64 * ROOM_FOR_LIST };
 
 /* Room for what is kept, so that a judging need hardly ever be done again: with the commas between entries of 16 bytes or more, and
  * with the last entry, which is seldom longer than the reports. */
 static size_t room_at_once(const struct erd_list *list) {
     size_t of_reports = list->it.left.size + list->it.right.size;
-    size_t enough = enough_at_once(list) < MOST_AT_ONCE ? enough_at_once(list) : MOST_AT_ONCE;
+    size_t enough = list->room < MOST_AT_ONCE ? list->room : MOST_AT_ONCE;
     size_t of_list = enough + enough / 16 + of_reports + ROOM_FOR_LINES, of_form = 2 * of_reports + ROOM_FOR_LINES;
     bool is_form = list->it.call == CANONICAL_PIECE || list->it.call == CANONICAL_DATA_PIECE;
     return is_form && of_form > of_list ? of_form : of_list;
@@ -98,7 +93,7 @@ static void mark_feeds(struct erd_list *list, const char *entry, size_t told) {
 /* Judges as data the entries whose lines are kept, and tells by it where they end. Of entries that are too long as data, none is kept. */
 static enum erd_outcome tell_apart(struct erd_list *list) {
     struct question data = list->it;
-    struct erd_piece wanted = {list->next, list->kept - list->next, enough_at_once(list), 0, 0};
+    struct erd_piece wanted = {list->next, list->kept - list->next, list->room, 0, 0};
     char *text;
     size_t length;
     data.call = (enum call)(data.call + CHECK_DATA_PIECE - CHECK_PIECE);
@@ -111,7 +106,7 @@ static enum erd_outcome tell_apart(struct erd_list *list) {
 
 /* Judges, and keeps the entries that come next: those that have room. */
 static enum erd_outcome keep_entries(struct erd_list *list) {
-    struct erd_piece wanted = {list->next, SIZE_MAX, enough_at_once(list), 0, 0};
+    struct erd_piece wanted = {list->next, SIZE_MAX, list->room, 0, 0};
     free(list->text);
     list->is_marked = false;
     list->outcome = call_for_piece(&list->it, room_at_once(list), &wanted, &list->text, &list->length);

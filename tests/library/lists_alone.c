@@ -8,20 +8,22 @@
 
 /* So many entries that their text has more than the mebibyte for which a call makes room by itself, and a size of a report that has more.
  * The report is not read. */
-enum { ENTRIES = 60000, SIZE = 4194304 };
+enum { ENTRIES = 60000, SIZE = 4194304, LONG_NAME = 1500, MOST = (LONG_NAME + 100) * ENTRIES + 100 };
 
 static unsigned judged, refused_at, passed, failed;
 static size_t entries;
+/* The name that a line has in front, if entries are long: so many are longer than 64 mebibytes together. */
+static int name_length;
 static bool has_side, has_line_feed;
 
 static const char *entry(size_t number, bool is_data) {
-    static char text[80];
+    static char text[LONG_NAME + 80];
     bool is_broken = has_line_feed && number % 10 == 7;
     const char *inner = number % 3 == 0 ? "]}\\\"{[" : number % 3 == 1 ? "\\\\n" : "";
     if (is_data)
         snprintf(text, sizeof text, "{\"a\":[%zu,[],{}],\"b\":\"%s%s\"}", number, inner, is_broken ? "\\n/8: wrong\\n" : "");
     else
-        snprintf(text, sizeof text, "/%zu%s: wrong\n", number, is_broken ? "\n/8: wrong\n" : "");
+        snprintf(text, sizeof text, "/%*zu%s: wrong\n", name_length, number, is_broken ? "\n/8: wrong\n" : "");
     return text;
 }
 
@@ -42,7 +44,7 @@ static size_t text_of(const struct wanted *wanted, bool is_data, size_t *told, c
 }
 
 static struct told judge(struct wanted *wanted, bool is_data, uint8_t *room, size_t room_size) {
-    static char text[100 * ENTRIES + 100];
+    static char text[MOST];
     size_t told;
     if (++judged == refused_at)
         return (struct told){ERD_NO_MEMORY, 0};
@@ -99,7 +101,7 @@ static void said(const char *why, enum erd_listing listing, const char *what) {
 
 /* What is wrong in the pieces of a list, each held against what the proved code has for it, or null. */
 static const char *wrong_in(enum erd_listing listing, size_t most, size_t enough, size_t room) {
-    static char expected[100 * ENTRIES + 100];
+    static char expected[MOST];
     struct erd_list *list = erd_open(listing, "", SIZE, "", 0, NULL, room);
     size_t first = 0, told, most_told;
     const char *why = NULL;
@@ -162,6 +164,16 @@ static void judgings(enum erd_listing listing) {
         without_memory(listing, judging);
 }
 
+/* A list whose entries have 90 megabytes is judged once if it may keep as much. */
+static void long_list(void) {
+    entries = ENTRIES;
+    name_length = LONG_NAME;
+    judged = 0;
+    const char *why = wrong_in(ERD_LIST_CHECK, 10000, SIZE_MAX, 100000000);
+    said(why != NULL || judged == 1 ? why : "it was judged more than once", ERD_LIST_CHECK, "long entries");
+    name_length = 0;
+}
+
 int main(void) {
     for (int listing = ERD_LIST_CHECK; listing <= ERD_LIST_DIFFERENCES_DATA; listing++) {
         bool is_data = listing >= ERD_LIST_CHECK_DATA;
@@ -177,6 +189,7 @@ int main(void) {
         }
         has_side = has_line_feed = false;
     }
+    long_list();
     erd_close(NULL);
     said(erd_open((enum erd_listing)8, "", 0, "", 0, NULL, 0) == NULL ? NULL : "it was opened", (enum erd_listing)8, "another number");
     printf("%u passed, %u failed\n", passed, failed);
