@@ -39,7 +39,7 @@ LINES = ("python3 tests/forms/command_lines.py --beside ./erd 'python -m erd' pa
 STEPS = [BOUNDED + 'python3 tests/prepare/steps.py']
 MODULE = 'node tests/forms/javascript_module.mjs'
 COMMAND = 'cp -n out/portable/erd.wasm bindings/js; node tests/forms/javascript_command.mjs bindings/js'
-PARTS = [f'node tests/page/{name}.mjs' for name in ('parts', 'lines', 'words', 'shown', 'ballot_words', 'record_words', 'modules', 'judged')]
+PARTS = [f'node tests/page/{name}.mjs' for name in ('parts', 'lines', 'words', 'shown', 'chosen', 'ballot_words', 'record_words', 'modules', 'judged')]
 
 # The files, and the commands that try them, the cheapest first.
 AREAS = {

@@ -15,6 +15,7 @@ const STATEMENTS = {
 function report(change = () => {}) {
     const made = typed('ElectionReport', {
         GpUnit: [typed('ReportingUnit', { '@id': 'gp1', ExternalIdentifier: identified('U1'), Name: 'East' })],
+        Header: [typed('Header', { '@id': 'he1', ExternalIdentifier: identified('H1'), Name: 'Offices' })],
         Party: ['Blue', 'Green'].map((name, at) => typed('Party', { '@id': `pa${at}`, ExternalIdentifier: identified(name), Name: name })),
         Election: [typed('Election', {
             Name: 'Test', StartDate: '2026-11-03',
@@ -49,6 +50,21 @@ const counted = new BallotAnswers([report((election) => { election.Contest[1].Vo
 equal('how many votes and which way', textsOf(counted).slice(1), [['votes', 'Vote for 1'], ['variation', 'Way of voting: vote for several']]);
 equal('each party of a candidate', governor.selections.map(textsOf),
     [[['name', 'Ann'], ['party', 'Blue'], ['party', 'Green']], [['name', 'Bo'], ['party', 'Green']]]);
+
+// A contest of parties has the names of the parties, a contest of a judge the name of the judge, and a header what stands below it.
+const others = new BallotAnswers([report((election) => {
+    const contests = ['co3', 'co4'].map((ContestId) => typed('OrderedContest', { ContestId }));
+    election.BallotStyle[0].OrderedContent = [typed('OrderedHeader', { HeaderId: 'he1', OrderedContent: contests })];
+    election.Contest.push(typed('PartyContest', { '@id': 'co3', ExternalIdentifier: identified('C3'), Name: 'Straight party', ContestSelection: [
+        typed('PartySelection', { '@id': 'ps1', PartyIds: ['pa0'] }), typed('PartySelection', { '@id': 'ps2', PartyIds: ['pa0', 'pa1'] })] }),
+    typed('RetentionContest', { '@id': 'co4', ExternalIdentifier: identified('C4'), Name: 'Judge', CandidateId: 'ca2',
+        ContestSelection: ['Yes', 'No'].map((text) => typed('BallotMeasureSelection', { '@id': `re${text}`, Selection: text })) }));
+})]).ballot({ key }).items;
+equal('what stands below a header', others.map(({ kind, depth, lines }) => [kind, depth, textsOf({ lines })[0][1]]),
+    [['header', 0, 'Offices'], ['contest', 1, 'Straight party'], ['contest', 1, 'Judge']]);
+equal('the names of parties', others[1].selections.map(textsOf), [[['name', 'Blue']], [['name', 'Blue'], ['name', 'Green']]]);
+equal('the name of a judge, and the answers', [textsOf(others[2]).filter(([role]) => role === 'candidate'), others[2].selections.map(textsOf)],
+    [[['candidate', 'Bo']], [[['name', 'Yes']], [['name', 'No']]]]);
 
 // Only one of the files fixes an order.
 const ordered = report((election) => { election.BallotStyle[0].OrderedContent[1].OrderedContestSelectionIds = ['cs1', 'cs2']; });

@@ -5,6 +5,10 @@ class Element {
         Object.assign(this, { tag, attributes: {}, children: [], listeners: {}, dataset: {}, style: { setProperty() {} } });
     }
 
+    querySelector() {
+        return null;
+    }
+
     get lastElementChild() {
         return this.children.filter((child) => typeof child !== 'string').at(-1);
     }
@@ -26,7 +30,11 @@ class Element {
         this.append(...children);
     }
 
+    // A box to tick reads as one.
     get textContent() {
+        if (this.tag === 'input') {
+            return Object.hasOwn(this.attributes, 'checked') ? '☑' : '☐';
+        }
         return this.children.map((child) => (typeof child === 'string' ? child : child.textContent)).join('');
     }
 
@@ -35,7 +43,15 @@ class Element {
     }
 }
 
-globalThis.document = { createElement: (tag) => new Element(tag), createDocumentFragment: () => new Element(null) };
+const named = new Map();
+
+/** The element of an id, which is there as soon as it is asked for. */
+export function byId(id) {
+    named.set(id, named.get(id) ?? new Element('div'));
+    return named.get(id);
+}
+
+globalThis.document = { createElement: (tag) => new Element(tag), createDocumentFragment: () => new Element(null), getElementById: byId };
 
 /** All elements below this one that have the tag, in their order. */
 export function below(element, tag) {

@@ -102,6 +102,15 @@ async function tryTwo(name, files, prefer) {
     }
 }
 
+// ---- files that are not judged
+
+const long = judgementOf([Buffer.alloc(67108865, ' '), Buffer.from('{')]);
+equal('a file that is too long, and one that is not JSON', (await long.verdict(quiet)).files.map(({ outcome, size }) => [outcome, size]),
+    [['tooLong', 67108865], ['notJson', 1]]);
+const gone = new Judgement(erd, [{ name: 'a.json', size: 5, stream: () => { throw new Error('gone'); } }], null, SEEN);
+equal('a file that is gone', (await gone.verdict(quiet)).files.map(({ outcome, size }) => [outcome, size]), [['unreadable', 5]]);
+equal('it has no sums', await gone.sums({}, quiet), [{}]);
+
 // ---- the examples
 
 const example = (name) => readFileSync(new URL(`examples/${name}`, ROOT));

@@ -11,6 +11,7 @@ import { differenceList, ownOffer, ownSentence, typeOffer } from '../../web/scri
 import { FaultCards, where } from '../../web/scripts/faults.mjs';
 import { differencesFiled, faultsFiled } from '../../web/scripts/findings.mjs';
 import { convertedLines, convertedNotices, convertedSentence, savedName } from '../../web/scripts/from_xml/shown.mjs';
+import { ManyFiles } from '../../web/scripts/many.mjs';
 import { envelopeTable, fileNotices, notesNotice, sameBytesNotice } from '../../web/scripts/notices.mjs';
 import { claimNotice, CopyMaker, copyRecorded } from '../../web/scripts/prepare_copy.mjs';
 import { troublesOf } from '../../web/scripts/refused.mjs';
@@ -18,6 +19,7 @@ import { seenBox } from '../../web/scripts/seen_box.mjs';
 import { banner, sentencesOn, verdictOf } from '../../web/scripts/verdict.mjs';
 import { counts, equal, ROOT } from './counted.mjs';
 
+globalThis.navigator ??= { hardwareConcurrency: 1 };
 const NAMES = ['a.json', 'b.json'];
 const BLOCKS = ['p', 'li', 'h2', 'h3', 'h4', 'td', 'th', 'dt', 'dd', 'summary', 'caption', 'legend', 'button'];
 useExplanations({ alike: {} });
@@ -112,7 +114,9 @@ const numbered = (number) => ({ ...ENTRIES[number], number, word: 'seen' });
 const TALLIES = [{ part: 'contest', differ: 1, members: 3, 'only left': 0, 'only right': 0 },
     { part: 'candidate', differ: 0, members: 0, 'only left': 1, 'only right': 2 }];
 const LISTED = { count: 4, listed: 4, tallies: TALLIES, pairs: [], counts: { own: 4, caused: 0 }, seen: {}, kinds: [] };
-const lister = (all) => ({ ask: async (_, { from, count }) => ENTRIES.slice(from, Math.min(all, from + count)).map((_, at) => numbered(from + at)) });
+// A client answers what it is asked, and nothing else.
+const answering = (answers) => ({ ask: async (kind, question) => answers[kind](question) });
+const lister = (all) => answering({ more: ({ from, count }) => ENTRIES.slice(from, Math.min(all, from + count)).map((_, at) => numbered(from + at)) });
 const PAIR = { part: 'person', keys: [KEY, ['fips', '', 'X']], titles: ['Ann', 'Ann'] };
 const own = (types, count) => ownSentence({ types, count });
 const LISTS = {
@@ -164,8 +168,8 @@ const BALLOTS = {
 const PLACES = Array.from({ length: 10 }, (_, at) => ({ trail: [], pointer: `/p${at}`, excerpt: null }));
 const FIXES = Object.fromEntries(['2', '15', 'not JSON'].map((reason) => [reason,
     { meaning: [[`It means ${reason}.`]], fixing: [['Fix ', { code: reason }]], origin: [[`It comes from ${reason}.`]] }]));
-const client = { ask: async (kind, { count = 0 }) => (kind === 'places' ? PLACES.slice(0, count)
-    : { kinds: [{ reason: 2, count: 12, names: [['Name', 11], ['Type', 1]] }, { reason: 15, count: 1, names: [] }], told: 13 }) };
+const KINDS = { kinds: [{ reason: 2, count: 12, names: [['Name', 11], ['Type', 1]] }, { reason: 15, count: 1, names: [] }], told: 13 };
+const client = answering({ kinds: ({ index }) => [KINDS][index], places: ({ index, from, count }) => [PLACES][index].slice(from, from + count) });
 const CONVERTED = { isBorn: false, sha256: 'a'.repeat(64), form: { sha256: 'b'.repeat(64), size: 9 }, allTold: 12,
     told: [{ place: '/X', line: 4, key: 'element', name: '' }, { place: '/Y', line: null, key: 'attribute', name: 'q' }] };
 const XML = { name: 'a.xml', index: 0, client: null, isRefused: false };
@@ -178,7 +182,7 @@ const OVERVIEW = { counts: { style: 2, contest: 1, candidate: 0, party: 3, offic
     hidden: { maybe: { count: 1, kinds: [] }, unseen: { count: 2, kinds: [] } } };
 const FINE = { ...OVERVIEW, precincts: { all: 4, none: 0, several: 0 }, unlisted: { count: 0, names: [] },
     hidden: { maybe: { count: 0 }, unseen: { count: 0 } } };
-const card = (overview, languages, sums) => cardOf({ client: { ask: async (kind) => (kind === 'overview' ? overview : languages) }, tell() {},
+const card = (overview, languages, sums) => cardOf({ client: answering({ overview: () => overview, languages: () => languages }), tell() {},
     isLarge: false, sums });
 const GENERAL = { name: 'General', start: '2026-11-03', end: '2026-11-04', type: 'general' };
 const OTHERS = {
@@ -204,6 +208,31 @@ const OTHERS = {
         envelope: { SequenceStart: '1', SequenceEnd: '1' } }),
 };
 
+// ---- many files
+
+const surveyOf = (sum, more = {}) => ({ outcome: 'accepted', sha256: `0${sum}`.repeat(32), canonical: { size: 1, sha256: sum.repeat(64) }, repeated: 0,
+    isTest: false, notes: null, converted: null, ...more });
+const SURVEYS = {
+    'a.json': surveyOf('a'), 'b.json': surveyOf('b', { isTest: true, notes: 'first' }), 'c.json': surveyOf('b', { repeated: 2 }),
+    'd.xml': surveyOf('d', { converted: CONVERTED }), 'e.json': { outcome: 'refused', faults: 12, repeated: 0, isTest: false, notes: null, converted: null },
+    'f.json': { outcome: 'notJson', repeated: 0, isTest: false, notes: null, converted: null },
+};
+const compared = [];
+const many = new ManyFiles(document.createElement('div'), [...Object.keys(SURVEYS).map((name, at) => ({ file: { name, size: 1000 - at }, name })),
+    { file: { name: 'g.txt', size: 5 }, name: 'g.txt', isLeftOut: true }], {
+    client: { ...answering({ survey: ({ file, prefer }) => (prefer === 'fips' ? SURVEYS[file.name] : null) }), another: () => many.client, leave() {} },
+    judgedFile: async (file) => ({ file }), compare: (files) => compared.push(files.map(({ name }) => name)), say() {},
+});
+await many.judge('fips', () => {}, () => true);
+const heads = () => linesOf(many.table).filter((text) => /^[a-g]\.(json|xml|txt)$/.test(text)).join(' ');
+const MANY = { 'many files': [...many.holder.children], 'many files as CSV': many.records().map((cells) => cells.join(' | ')) };
+const orders = [0, 1, 1, 2, 3].map((column) => {
+    many.sort(column);
+    return heads();
+});
+[5, 0, 0, 4, 1].forEach((row) => many.choose(many.rows[row]));
+Object.assign(MANY, { 'many files in other orders': orders, 'files that are compared': compared.map((two) => two.join(' ')) });
+
 // ---- the lines by hand
 
 /** The lines of each case. */
@@ -212,7 +241,7 @@ function wantedLines() {
     return new Map(parts.flatMap((name, at) => (at % 2 === 0 ? [[name, parts[at + 1].split('\n').filter((one) => one !== '')]] : [])));
 }
 
-const shown = { ...VERDICTS, ...NOTICES, ...SEEN, ...LISTS, ...BALLOTS, ...OTHERS,
+const shown = { ...VERDICTS, ...NOTICES, ...SEEN, ...LISTS, ...BALLOTS, ...OTHERS, ...MANY,
     ...Object.fromEntries(Object.entries(DIFFERENCES).map(([name, one]) => [`a difference: ${name}`, firstDifference(one, NAMES)])) };
 const wanted = wantedLines();
 for (const [name, node] of Object.entries(shown)) {
