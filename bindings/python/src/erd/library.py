@@ -34,7 +34,7 @@ LISTINGS = {name: number for number, name in enumerate((
 
 # An open list keeps so many bytes of what was judged: some for each byte of the reports, as a judging itself takes, and never more than
 # the last number. Reports are judged once for so much of a list.
-LEAST_KEPT, KEPT_FOR_A_BYTE, MOST_KEPT = 2 ** 26, 16, 2 ** 30
+LEAST_KEPT, KEPT_FOR_A_BYTE, MOST_KEPT = 2 ** 24, 16, 2 ** 30
 
 
 class Piece(ctypes.Structure):
