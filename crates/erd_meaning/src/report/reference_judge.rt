@@ -80,15 +80,15 @@ impl<'b, 'a> Visitor for ReferenceJudge<'b, 'a> {
         let Want::Reference(family) = visit.want else {
             return Ok(());
         };
-        let position = visit.position;
+        let context = visit.context;
         if is_among(visit.value, visit.earlier) {
-            push_fault(alloc, position.path, Reason::Repeated, found)?;
+            push_fault(alloc, context.path, Reason::Repeated, found)?;
         }
         match visit.value.as_str() {
             Some(id) => push_any(
                 alloc,
-                self.id_reason(family, id, position.outer),
-                position.path,
+                self.id_reason(family, id, context.outer),
+                context.path,
                 found,
             ),
             None => Ok(()),
