@@ -51,6 +51,9 @@ export const STEPS: readonly Step[];
 /** The names of the steps of these groups. */
 export function stepsOf(...groups: Step['group'][]): string[];
 
+/** What to do about a fault that is left, by the number of its reason: the steps that may fix it, and what to ask the vendor for. */
+export function remedyOf(reason: number): { steps: string[]; letter: string };
+
 /** A file that is being prepared. */
 export class Preparation {
     constructor(bytes: Uint8Array, erd: Erd);

@@ -3,7 +3,7 @@
 import { existsSync, readdirSync, readFileSync } from 'node:fs';
 import { load, MOST_BYTES, NoMemoryError, repeatedNames, TooLongError, TrapError } from '../../bindings/js/index.mjs';
 import { compactText } from '../../bindings/js/lib/exact.mjs';
-import { Preparation, STEPS, stepsOf, told } from '../../bindings/js/lib/prepare/prepared.mjs';
+import { Preparation, remedyOf, STEPS, stepsOf, told } from '../../bindings/js/lib/prepare/prepared.mjs';
 import { withMostPages } from '../shared/less_memory.mjs';
 
 const SUITE = new URL('../../out/conformance/', import.meta.url);
@@ -288,6 +288,7 @@ const others = new Preparation(encoder.encode(`\ufeff{"Notes":null,${REPORT}}`),
 equal('prepared: what other steps would do', others.steps.map((step) => `${step.name} ${step.done} ${step.count}`).join(), 'byte-order-mark false 1,nulls false 1');
 const aLongList = new Preparation(encoder.encode(`{${REPORT},"a":[${Array(1500).fill('{"x":null}')}]}`), erd).prepare(['nulls']).steps;
 equal('prepared: a long list', aLongList.map(({ made, count, more }) => `${made.length} ${count} ${more}`).join(), '1000 1500 true');
+equal('prepared: what to do about a fault that is left', JSON.stringify([11, 16].map((reason) => remedyOf(reason).steps)), '[["repeated"],[]]');
 equal('prepared: the steps', STEPS.every(({ group, title, does, loses }) => [group, title, does, loses].every((text) => text.length > 5)), true);
 throws('prepared: no JSON', Error, () => new Preparation(encoder.encode('{'), erd).prepare([]));
 throws('prepared: a name that no step has', RangeError, () => new Preparation(encoder.encode('{}'), erd).prepare(['nosuch']));

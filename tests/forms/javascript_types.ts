@@ -29,10 +29,11 @@ erd.check(5);
 erd.check('', { preferred: 'fips' });
 export { bytes, counts, difference, errors, files, more, order, pieces, name, side, steps, taken, text };
 
-import { Preparation, stepsOf, told } from 'erd/prepare';
+import { Preparation, remedyOf, stepsOf, told } from 'erd/prepare';
 
 const prepared = new Preparation(new Uint8Array(), erd).prepare(stepsOf('removed'), { tellsOthers: true });
-const lengths: number[] = [prepared.bytes.length, ...prepared.steps.map((step) => told(step).changes.length)];
+const letters: string[] = [remedyOf(8).letter, ...remedyOf(8).steps];
+const lengths: number[] = [prepared.bytes.length, letters.length, ...prepared.steps.map((step) => told(step).changes.length)];
 const positions: number[] = erd.ballots('').ballots.map((ballot) => ballot.position);
 const depths: number[] = erd.ballot('', 0)?.ballot?.lines.map((line) => line.depth) ?? [];
 const ways: ('only left' | 'only right' | 'differs')[] = erd.ballotDifferences('', '').differences.map((ballot) => ballot.how);

@@ -15,6 +15,7 @@ import accessibility
 import ballots
 import bounds
 import browsers
+import dead_ends
 import filed
 import flows
 import growing
@@ -42,7 +43,7 @@ import xml_form
 from session import Session, report_of_units
 
 KINDS = {kind.name: kind for kind in (browsers.Chromium, browsers.Firefox)}
-PARTS = (flows, top, results, notices, lines, growing, voter, overview, ballots, printed, record, filed, prepared, many, newcomer, named, spanish, keyboard,
+PARTS = (flows, top, results, notices, lines, growing, voter, overview, ballots, printed, record, filed, prepared, dead_ends, many, newcomer, named, spanish, keyboard,
          hostile, bounds, large, xml_form, xml_agree, network, accessibility)
 # The pictures for a person to look at are made where they are asked for by name.
 DEFAULT = [part.__name__ for part in PARTS]

@@ -1,8 +1,9 @@
 """Holds the tables of the packages against docs/PROFILE.md: the words of the reasons, and what drives the converter from XML (the
-other half of it is bindings/xml_classes.txt); and the options of the manual page and of the completions against the help of the program
+other half of it is bindings/xml_classes.txt); what to do about a fault that is left (bindings/remedies.txt); and the options of the manual page and of the completions against the help of the program
 (options.py). With `--write` they are written anew. Each stands in its file between a line that begins it and one that ends it.
 """
 import pathlib
+import re
 import sys
 
 ROOT = pathlib.Path(__file__).resolve().parents[2]
@@ -65,6 +66,36 @@ def rows_of_version_1(name, line):
     return (line % (old, new) for old, new in section_of_xml(f'version 1: {name}'))
 
 
+REMEDIES = ROOT / 'bindings' / 'remedies.txt'
+
+
+def remedies():
+    """What to do about a fault of each reason: the steps that may fix it, and what to ask the vendor for."""
+    rows = [line.split(' | ') for line in REMEDIES.read_text(encoding='utf-8').splitlines() if not line.startswith('#')]
+    return {int(number): ([] if steps == '-' else steps.split(', '), text) for number, steps, text in rows}
+
+
+def steps_of_page():
+    """For each reason the steps that fix it by the table of docs/FIXES.md."""
+    text = (ROOT / 'docs' / 'FIXES.md').read_text(encoding='utf-8')
+    rows = re.findall(r'^\| `([a-z-]+)` \| [a-z-]+ \| .* \| ([^|]*) \|$', text, re.M)
+    return {number: [step for step, fixes in rows if f'[{number}](' in fixes] for number in text_of_reasons()}
+
+
+def in_quotes(text):
+    return f'"{text}"' if "'" in text else f"'{text}'"
+
+
+def rows_of_remedies(opening, closing, joined):
+    for number, (steps, text) in remedies().items():
+        yield f'    {number}: {opening}{joined(steps)},'
+        yield f'        {in_quotes(text)}{closing},'
+
+
+def in_brackets(steps):
+    return '[' + ', '.join(map(in_quotes, steps)) + ']'
+
+
 # The file, the lines that begin and end its table, and the lines of the table.
 FROM_XML = {'python': 'bindings/python/src/erd/from_xml/table.py', 'javascript': 'web/scripts/from_xml/table.mjs'}
 TABLES = (
@@ -76,6 +107,8 @@ TABLES = (
     (FROM_XML['javascript'], 'const ROWS = {', '};', xml_rows('    %s:', '+ ', ',')),
     (FROM_XML['javascript'], 'const COLLECTED = {', '};', rows_of_version_1('collections', "    %s: '%s',")),
     (FROM_XML['javascript'], 'const RENAMED = {', '};', rows_of_version_1('names', "    %s: '%s',")),
+    ('bindings/python/src/erd/prepare/step_words.py', 'REMEDIES: Dict[int, Tuple[List[str], str]] = {', '}', rows_of_remedies('(', ')', in_brackets)),
+    ('bindings/js/lib/prepare/step_words.mjs', 'export const REMEDIES = {', '};', rows_of_remedies('[', ']', in_brackets)),
     *options.TABLES,
 )
 
@@ -88,6 +121,7 @@ def parts(text, first, last):
 
 
 def cases():
+    yield 'bindings/remedies.txt has the steps of docs/FIXES.md for each reason', steps_of_page(), {number: steps for number, (steps, _) in remedies().items()}
     for path, first, last, lines in TABLES:
         _, table, _ = parts((ROOT / path).read_text(encoding='utf-8'), first, last)
         yield f'{first} of {path}, which tests/pages/tables.py --write writes', list(lines), table.split('\n')

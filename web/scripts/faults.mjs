@@ -1,4 +1,5 @@
 // The faults of a file as cards, one for each kind: what it means, how it is fixed, and its places.
+import { remedyOf } from '../../bindings/js/lib/prepare/prepared.mjs';
 import { button, element, long, saidWith, save, theirs } from './dom.mjs';
 import { excerptShown } from './excerpts.mjs';
 import { GrowingList } from './growing.mjs';
@@ -14,7 +15,7 @@ export class FaultCards {
     /**
      * @param {import('./client.mjs').Client} client
      * @param {Record<string, object>} fixes what is known of each reason
-     * @param {{index: number, name: string, count: number}} file
+     * @param {{index: number, name: string, count: number, isReport: boolean}} file
      */
     constructor(client, fixes, file) {
         this.client = client;
@@ -51,7 +52,8 @@ export class FaultCards {
         });
         return element('li', { class: 'card', 'data-reason': String(reason) },
             element('h4', { tabindex: '-1' }, say(`reason.${reason}`), ' ', element('span', { class: 'count' }, say('faults.places', { count }))),
-            ...paragraphs(fix.meaning), names.length === 0 ? null : namesShown(names), this.fixing(fix), ...await list.begun());
+            ...paragraphs(fix.meaning), names.length === 0 ? null : namesShown(names), this.fixing(fix), this.file.isReport ? remedyShown(reason) : null,
+            ...await list.begun());
     }
 
     async places(reason, from, count) {
@@ -75,6 +77,14 @@ export class FaultCards {
         return element('details', { open: true }, element('summary', {}, say('faults.fix')),
             ...paragraphs(fix.fixing), element('p', { class: 'label' }, say('faults.origin')), ...paragraphs(fix.origin));
     }
+}
+
+// The steps that may fix faults of a kind, or that none can, and what to write to the vendor.
+function remedyShown(reason) {
+    const { steps } = remedyOf(reason);
+    const names = steps.map((step) => say(`step.${step}`)).join(' · ');
+    return element('div', { class: 'remedy' }, element('p', {}, steps.length === 0 ? say('faults.noStep') : say('faults.steps', { steps: names })),
+        element('p', {}, element('span', { class: 'label' }, say('faults.letter')), ' ', element('q', {}, say(`letter.${reason}`))));
 }
 
 // The members that the faults of a kind are about.

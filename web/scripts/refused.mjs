@@ -18,7 +18,12 @@ async function sectionsOf(file, { index, name, client, fixes, takesCopy }) {
         const why = whyNotConverted(file);
         return [...(file.trouble.why === 'byteOrderMark' && why === null ? [preparing()] : []), notJson(file.trouble, why, { name, index, fix: fixes['not JSON'] })];
     }
-    return file.outcome === 'refused' ? [preparing(), await new FaultCards(client, fixes, { index, name, count: file.faults }).section()] : [];
+    if (file.outcome !== 'refused') {
+        return [];
+    }
+    const isReport = file.other === undefined;
+    const faults = await new FaultCards(client, fixes, { index, name, count: file.faults, isReport }).section();
+    return isReport ? [preparing(), faults] : [faults];
 }
 
 function notJson({ why, line, column, excerpt }, whyNot, { name, index, fix }) {

@@ -11,6 +11,7 @@ import { excerptOf, Lines } from './excerpt.mjs';
 import { kindsOf } from './fault_kinds.mjs';
 import { readBorn } from './from_xml/born.mjs';
 import { formOf, whyNot } from './from_xml/form.mjs';
+import { otherFile } from './other_file.mjs';
 import { foundPlaces } from './places.mjs';
 import { textOf } from '../../bindings/js/lib/scanner.mjs';
 import { typesIn } from './types.mjs';
@@ -109,6 +110,7 @@ export class Side {
             ...(converted === null ? {} : { converted }),
             ...(outcome === 'refused' ? { faults: this.checked.allFaults } : {}),
             ...(outcome === 'refused' && this.checked.faults.some(({ reason }) => reason === NOT_PRE_ELECTION) ? { status: this.status() } : {}),
+            ...(outcome === 'refused' ? { other: otherFile(this.bytes, this.checked.faults) } : {}),
             ...(outcome === 'notJson' ? { trouble: this.trouble() } : {}),
         };
     }

@@ -49,8 +49,16 @@ function judgedSentences({ files, comparison }, names) {
 }
 
 function sentenceOn(file, name) {
-    const { outcome, faults, size, status } = file;
+    const { outcome, faults, size } = file;
     const said = element('p', {}, saidWith(`sentence.${outcome}`, { name: theirs(name) }, { count: faults ?? 0, size, most: MOST_BYTES }));
-    return status === undefined ? said
-        : element('div', {}, said, element('p', {}, saidWith('sentence.afterElection', { status: long(status, LONGEST_STATUS) })));
+    const more = sentenceBeside(file);
+    return more === null ? said : element('div', {}, said, element('p', {}, more));
+}
+
+// What a refused file is, if it is no ElectionReport from before the election.
+function sentenceBeside({ status, other }) {
+    if (status !== undefined) {
+        return saidWith('sentence.afterElection', { status: long(status, LONGEST_STATUS) });
+    }
+    return other === undefined ? null : say(`sentence.${other}`);
 }

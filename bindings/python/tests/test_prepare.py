@@ -47,6 +47,14 @@ def test_what_is_left():
     assert (done[0].count, done[0].left_count, done[0].left[0].place) == (0, 1, ('Party', 0))
 
 
+def test_what_to_do_about_a_fault_that_is_left():
+    """For each reason there are steps that may fix it, or none, and a sentence for the vendor."""
+    names = [step.name for step in prepare.STEPS]
+    remedies = [prepare.remedy_of(reason) for reason in range(1, 19)]
+    assert all(set(remedy.steps) <= set(names) and remedy.letter.endswith('.') for remedy in remedies)
+    assert [number for number, remedy in enumerate(remedies, 1) if not remedy.steps] == [8, 9, 16, 17]
+
+
 def test_numbers_that_are_written_in_another_way(monkeypatch):
     """They are told by line and column. A file that keeps its bytes keeps its numbers."""
     numbers = ('{"changes":[{"after":"1.5","before":"1.50","column":12,"line":3}],"count":1,"done":true,"left":[],"left_count":0,'

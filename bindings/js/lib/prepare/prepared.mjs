@@ -2,7 +2,7 @@
 import { NotJson } from '../scanner.mjs';
 import { compactText, hasMark, readTree, withoutMark } from '../tree.mjs';
 import { pointerOf } from '../words.mjs';
-import { STEP_WORDS } from './step_words.mjs';
+import { REMEDIES, STEP_WORDS } from './step_words.mjs';
 
 /** The step that concerns the bytes and not the tree. The proved code takes bytes without a mark. */
 export const MARK_STEP = 'byte-order-mark';
@@ -16,6 +16,12 @@ export const STEPS = Object.entries(STEP_WORDS).map(([name, [group, title, does,
 /** The names of the steps of these groups. */
 export function stepsOf(...groups) {
     return STEPS.filter(({ group }) => groups.includes(group)).map(({ name }) => name);
+}
+
+/** What to do about a fault that is left, by the number of its reason: the steps that may fix it, and what to ask the vendor for. */
+export function remedyOf(reason) {
+    const [steps, letter] = REMEDIES[reason];
+    return { steps, letter };
 }
 
 /** A file that is being prepared. */

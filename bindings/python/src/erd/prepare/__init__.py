@@ -14,10 +14,11 @@ from __future__ import annotations
 from typing import Iterable, List, Tuple
 
 from ..tree import NotJson
-from .prepared import STEPS, Change, ChangedNumber, Done, Left, Preparation, Step, names_of, steps_of
+from .prepared import STEPS, Change, ChangedNumber, Done, Left, Preparation, Remedy, Step, names_of, remedy_of, steps_of
 from .step_words import LEFT_WORDS
 
-__all__ = ['LEFT_WORDS', 'STEPS', 'Change', 'ChangedNumber', 'Done', 'Left', 'NotJson', 'Preparation', 'Step', 'names_of', 'prepare', 'steps_of']
+__all__ = ['LEFT_WORDS', 'STEPS', 'Change', 'ChangedNumber', 'Done', 'Left', 'NotJson', 'Preparation', 'Remedy', 'Step', 'names_of', 'prepare',
+           'remedy_of', 'steps_of']
 
 
 def prepare(data: bytes, names: Iterable[str] = tuple(steps_of('removed'))) -> Tuple[bytes, List[Done]]:

@@ -7,7 +7,7 @@ from typing import Any, Iterable, List, NamedTuple, Tuple, Union
 
 from ..library import GOOD, NOT_JSON, TooLong, prepared
 from ..tree import MARK, NotJson, Tree, WrittenNumber, without_mark, written
-from .step_words import GROUP_WORDS, STEP_WORDS
+from .step_words import GROUP_WORDS, REMEDIES, STEP_WORDS
 
 MARK_STEP = 'byte-order-mark'
 """The step that concerns the bytes and not the tree. The library takes bytes without a mark."""
@@ -115,6 +115,18 @@ def names_of(text: str) -> List[str]:
             raise ValueError(f'there is no step {word}')
         names += steps_of(word) if word in GROUP_WORDS else [word]
     return names
+
+
+class Remedy(NamedTuple):
+    """What to do about a fault that is left: the steps that may fix it, and what to ask the vendor for."""
+
+    steps: List[str]
+    letter: str
+
+
+def remedy_of(reason: int) -> Remedy:
+    """Returns what to do about a fault that is left, by the number of its reason."""
+    return Remedy(*REMEDIES[reason])
 
 
 def _number_of(number: Any) -> int:

@@ -2,7 +2,7 @@
 
 from __future__ import annotations
 
-from typing import Dict, Tuple
+from typing import Dict, List, Tuple
 
 GROUP_WORDS = {
     'removed': 'No ballot has it',
@@ -69,7 +69,7 @@ STEP_WORDS: Dict[str, Tuple[str, str, str, str]] = {
     'coordinates': (
         'removed',
         'Coordinates',
-        'Removes each LatLng.',
+        'Removes each LatLng, and other positions with a fraction.',
         'Lost: where on the map a place is.',
     ),
     'whole-numbers': (
@@ -198,3 +198,43 @@ LEFT_WORDS = {
     'nothingTells': 'nothing tells it from another one',
 }
 """Why a step left something as it is."""
+
+REMEDIES: Dict[int, Tuple[List[str], str]] = {
+    1: (['nulls', 'kinds'],
+        'Write numbers and truth values without quotes, texts and codes with quotes, and a list even for one entry. Leave out what has no value.'),
+    2: (['class-names'],
+        'Write the member that is missing. The standard requires it.'),
+    3: (['class-names', 'devices'],
+        'Write the class with its prefix, as in ElectionResults.ReportingUnit, and only one that the standard has there. Leave machines out.'),
+    4: (['coordinates', 'whole-numbers'],
+        'Write whole numbers. Leave coordinates out, or write them as texts.'),
+    5: (['outside', 'counts'],
+        'Leave out counts, registered voters, groups of offices, and who runs the election.'),
+    6: (['vendor-identifiers', 'vendor-texts'],
+        "Only the standard's references end in Id or Ids. Make a number of your database one more ExternalIdentifier, or give the member another name."),
+    7: (['stray-ids', 'vendor-texts'],
+        'Leave out an @id where the standard has none. Give a member of your own a name that does not end in Id or Ids.'),
+    8: ([],
+        'Send the definition from before the election, with the Status pre-election. This is another report.'),
+    9: ([],
+        'Send the report with its election.'),
+    10: (['unused-styles', 'empty-texts'],
+        'Write what belongs into the list. The standard requires an entry. If the object is not used, leave it out.'),
+    11: (['repeated'],
+        'Write each entry of a set once. If another one was meant, write that.'),
+    12: (['vendor-identifiers', 'unused-persons', 'names'],
+        'Give each unit, party, person, office, header, candidate, contest and ballot style an ExternalIdentifier.'),
+    13: (['town-codes', 'county-codes', 'shared-codes', 'write-in-candidates', 'codes'],
+        'Give each object an identifier that no other object of its sort has. Put the county, party or election in front of numbers that begin again.'),
+    14: (['unused-ids', 'twin-ids'],
+        'Give each object an @id that no other object has.'),
+    15: (['gone-candidates'],
+        'Write the object that is named, or leave it out of every list that names it.'),
+    16: ([],
+        'Let each reference name an object of the sort that the standard asks for.'),
+    17: ([],
+        'Let each contest on a ballot list its own lines, and none of another contest.'),
+    18: (['write-in-lines', 'party-lines'],
+        'Number the write-in lines of a contest with SequenceOrder. Give the lines of one candidate for several parties an ExternalIdentifier each.'),
+}
+"""What to do about a fault that is left, by the number of its reason: the steps that may fix it, and what to ask the vendor for."""
