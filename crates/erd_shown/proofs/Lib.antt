@@ -5,6 +5,7 @@ mod told
 mod KeyedKinds
 mod Found
 mod Placed
+mod KeysFound
 mod Written
 mod SelectionPairs
 mod LineNodes

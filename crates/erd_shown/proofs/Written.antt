@@ -10,7 +10,7 @@ use Rattle.erd_meaning.specs.Keys.{Preference}
 use Rattle.erd_meaning.specs.Records.{class_of_node, is_header_class}
 use Rattle.std.specs.Option.{option_map_or}
 use Rattle.erd_meaning.specs.declared.keys.key.Key.{Key}
-use Rattle.erd_shown.proofs.Common.{items_of, items_tokens, is_some, begin_array, append_assoc, map, map-append, slice_get, slice_get_within, get_or_from_slice_get}
+use Rattle.erd_shown.proofs.Common.{compact_text, option_map, items_of, items_tokens, is_some, begin_array, append_assoc, map, map-append, slice_get, slice_get_within, get_or_from_slice_get}
 use Rattle.erd_shown.specs.KeyData.{array_of, shown_key}
 use Rattle.erd_shown.specs.code.Writing.{member_if, member_told}
 use Rattle.erd_shown.specs.ContentData.{content_data, contest_data, header_data, inside_data, members_in, node_data}
@@ -119,6 +119,15 @@ told_member false (Some d) k was now some each = each d refl ∙ append_assoc wa
 pub untold_member : (o : Option Data) (k : List ℕ) (was : List Token) → is_some o ≡ false → was ≡ was ++ member_told k o
 untold_member None k was none = sym (append-nil was)
 untold_member (Some d) k was none = cc
+
+-- the text of a value, if there is one
+pub some_text : (o : Option Data) (text : List ℕ) → is_some o ≡ true → ((d : Data) → o ≡ Some d → text ≡ compact_text d) → Some text ≡ option_map compact_text o
+some_text None text some each = cc
+some_text (Some d) text some each = ap Some (each d refl)
+
+pub no_text : (o : Option Data) → is_some o ≡ false → None ≡ option_map compact_text o
+no_text None none = refl
+no_text (Some d) none = cc
 
 -- the start of a name, and its other parts
 pub name_tokens : (o0 o1 o2 o3 o4 : List Token) (s : List ℕ) (ks : Data) (rest : List Data) → o1 ≡ o0 ++ begin_array ∷ [] → o2 ≡ o1 ++ value_tokens (string s) → o3 ≡ o2 ++ value_tokens ks

@@ -1,4 +1,4 @@
--- The laws of what is written for members and objects: in accepted reports, two are written alike if and only if they mean the
+-- The laws of what is written for members and objects. In accepted reports, two are written alike if and only if they mean the
 -- same.
 use Rattle.std.specs.Prelude.{ℕ, ◌≡◌, ◌↔◌, List, Option, Some, Contains}
 use Rattle.serde_json.specs.Data.{Data}

@@ -1,6 +1,7 @@
 pub mod KeyData  -- keys of objects and names of selections as JSON
 pub mod ContentData  -- the order of a ballot as JSON
 pub mod Shown  -- what members and objects mean as JSON
+pub mod SideValues  -- what one of two reports has where they differ
 pub mod Laws  -- the laws: written alike if and only if they mean the same
 pub mod Lines  -- the lines of a ballot
 pub mod ListedNames  -- the names of the selections of a contest on a ballot

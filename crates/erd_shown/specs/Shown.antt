@@ -1,4 +1,4 @@
--- The key style: what a member means as one JSON value, in which the key of an object stands for each reference to it. All of
+-- The key style. What a member means is one JSON value, in which the key of an object stands for each reference to it. All of
 -- this is the profile's own.
 use Rattle.std.specs.Prelude.{ℕ, List, [], ◌∷◌, slice_get, Bool, if◌then◌else◌, Option, Some, None, option_and_then, map, codes}
 use Rattle.std.specs.Option.{option_cmp, option_map_or}
@@ -95,8 +95,8 @@ shown_in π t hidden k d = if hidden then None else shown_value π t k d
 abbrev pub shown_member : Preference → Data → Class → List ℕ → Data → Option Data
 shown_member π t c name d = shown_in π t (is_in_envelope c name) (kind_of_member c name) d
 
--- What the member with this name means as JSON in an object of the class that is no selection, or none if it is absent or means
--- nothing by itself.
+-- What the member with this name means as JSON. The object is of the class, and no selection. There is none if the member is
+-- absent or means nothing by itself.
 abbrev pub member_data : Preference → Data → Class → List ℕ → Data → Option Data
 member_data π t c name d = option_and_then (shown_member π t c name) (get name d)
 

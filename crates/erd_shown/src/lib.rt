@@ -25,6 +25,7 @@ mod row_texts;
 mod rows;
 mod selection_rows;
 mod selections;
+mod side_values;
 mod texts;
 mod values;
 
@@ -39,3 +40,4 @@ pub use laws::{ballots_tell, members_tell, objects_tell};
 pub use objects::write_object;
 pub use partners::{occurrences, partners_of};
 pub use rows::{Row, rows_of};
+pub use side_values::side_value_text;

@@ -73,7 +73,7 @@ pub(crate) fn write_plain_member(
 }
 
 /// Returns whether a member of an object of the class means something by itself.
-fn is_written(class: Class, name: &str, member: &Value) -> bool
+pub(crate) fn is_written(class: Class, name: &str, member: &Value) -> bool
     ensures { (π : Preference) (t : Data) → result ≡ is_some (shown_plain π t class name.now (view member.now)) }
 {
     if is_in_envelope(class, name) {

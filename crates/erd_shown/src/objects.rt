@@ -1,4 +1,4 @@
-ghost use Rattle.std.specs.Prelude.{◌≡◌, ◌++◌, ◌∷◌, codes, None, Some, IfSome, false, option_copied, option_map, OnOk};
+ghost use Rattle.std.specs.Prelude.{◌≡◌, ℕ, ◌++◌, ◌∷◌, List, codes, None, Option, Some, IfSome, false, option_and_then, option_copied, option_map, OnOk};
 ghost use Rattle.json.specs.Token.{begin_object, key, string as text};
 ghost use Rattle.serde_json.specs.Data.{null, object as json_object};
 ghost use Rattle.serde_json.specs.View.{members_view, view};
@@ -13,6 +13,7 @@ ghost use Rattle.erd_meaning.specs.Objects.{Placed};
 ghost use Rattle.erd_shown.specs.KeyData.{shown_key_or_null};
 ghost use Rattle.erd_shown.specs.ContentData.{members_in};
 ghost use Rattle.erd_shown.specs.Shown.{holder_key, object_data_in, object_in_class, placed_in, shown_selections, shown_member, shown_members, unless_no_entry};
+ghost use Rattle.erd_shown.specs.SideValues.{told_of_object, told_of_placed};
 ghost use Rattle.erd_shown.specs.code.Selections.{AreNamedFrom, HoldNamed, is_selections};
 ghost use Rattle.erd_shown.specs.code.Writing.{member_told};
 
@@ -28,13 +29,13 @@ use std::alloc::{AllocError, Global};
 
 /// An object of a report.
 #[derive(Drop)]
-struct PlacedObject<'a> {
-    class: Class,
+pub(crate) struct PlacedObject<'a> {
+    pub(crate) class: Class,
     /// The key of the election that holds it.
-    holder: Option<&'a Key>,
+    pub(crate) holder: Option<&'a Key>,
     /// The position of the first of its selections in the report, if it is a contest.
     first_selection: usize,
-    value: &'a Value,
+    pub(crate) value: &'a Value,
 }
 
 /// Writes what the object with a role at a position means, as JSON: its class, the key of the election that holds it, and its
@@ -64,10 +65,17 @@ pub fn write_object(
 }
 
 /// Returns the object with a role at a position, if there is one whose class has the role.
-fn placed<'a>(report: &'a Report, role: Role, position: usize) -> Option<PlacedObject<'a>>
+pub(crate) fn placed<'a>(
+    report: &'a Report,
+    role: Role,
+    position: usize,
+) -> Option<PlacedObject<'a>>
     ensures none { result ≡ None → object_data_in report.now.prefer (view report.now.tree) role position ≡ null }
     ensures some { IfSome result (λ object. object_data_in report.now.prefer (view report.now.tree) role position
         ≡ object_in_class report.now.prefer (view report.now.tree) (option_copied object.holder) (view object.value.now) object.class) }
+    ensures untold { result ≡ None → (what : Option (List ℕ)) → option_and_then (told_of_placed report.now.prefer (view report.now.tree) role what) (placed_in (view report.now.tree) role position) ≡ None }
+    ensures told { IfSome result (λ object. (what : Option (List ℕ)) → option_and_then (told_of_placed report.now.prefer (view report.now.tree) role what) (placed_in (view report.now.tree) role position)
+        ≡ told_of_object report.now.prefer (view report.now.tree) what (option_copied object.holder) (view object.value.now) object.class) }
     ensures named { IfSome result (λ object. HoldNamed report.now.prefer (view report.now.tree) object.first_selection object.class (members_in (view object.value.now))) }
     ensures whole { IfSome result (λ object. has_float (view object.value.now) ≡ false) }
 {
@@ -132,7 +140,7 @@ fn write_placed(
 }
 
 /// Writes the start of an object, its class, and the key of its election.
-fn write_head(object: &PlacedObject, out: &mut Output) -> Result<(), AllocError>
+pub(crate) fn write_head(object: &PlacedObject, out: &mut Output) -> Result<(), AllocError>
     ensures { OnOk result (out.new ≡ out.old ++ begin_object ∷ key (codes "class") ∷ text (text_of_class object.now.class) ∷ key (codes "election") ∷ value_tokens (shown_key_or_null (option_copied object.now.holder))) }
 {
     out.begin_object()?;

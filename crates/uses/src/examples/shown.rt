@@ -4,7 +4,7 @@ use erd_meaning::Report;
 use erd_shown::{
     Row, ballot_differences_lines, ballot_differences_text, ballot_text, ballots_beside_text,
     ballots_lines, ballots_text, differing_ballots, occurrences, partners_of, rows_between,
-    rows_of, write_ballots_beside, write_object,
+    rows_of, side_value_text, write_ballots_beside, write_object,
 };
 use erd_tables::{Family, Role};
 use erd_text::Output;
@@ -54,6 +54,27 @@ fn no_header(rt: &impl Abort, alloc: Global, report: &Report) -> Result<(), Fail
     let mut out = Output::new(alloc);
     write_object(alloc, report, Role::OfFamily(Family::Header), 0, &mut out)?;
     assert!(rt; out.into_text().as_slice() == b"null".as_slice());
+    Ok(())
+}
+
+// The election of the contest, which no class lists as a member.
+const ELECTION: &str = r#"["local-level","","E1"]"#;
+
+// The record of the contest, without its selections.
+const CONTEST_RECORD: &str =
+    r#"{"class":"ElectionResults.CandidateContest","election":["local-level","","E1"],"members":{"ElectionDistrictId":["fips","","20"],"ExternalIdentifier":[{"@type":"ElectionResults.ExternalIdentifier","Type":"local-level","Value":"C1"}],"Name":"Mayor","VotesAllowed":1}}"#;
+
+fn values_are(rt: &impl Abort, alloc: Global, report: &Report) -> Result<(), Fail> {
+    let contest = Role::OfFamily(Family::Contest);
+    let key = report.key_at(Family::Contest, 0);
+    let name = side_value_text(alloc, report, contest, key, Some("Name"))?;
+    assert!(rt; name.ok_or("no name")?.as_str() == r#""Mayor""#);
+    let election = side_value_text(alloc, report, contest, key, Some("ElectionId"))?;
+    assert!(rt; election.ok_or("no election")?.as_str() == ELECTION);
+    let record = side_value_text(alloc, report, contest, key, None)?;
+    assert!(rt; record.ok_or("no contest")?.as_str() == CONTEST_RECORD);
+    let selections = side_value_text(alloc, report, contest, key, Some("ContestSelection"))?;
+    assert!(rt; selections.is_none());
     Ok(())
 }
 
@@ -194,6 +215,14 @@ fn ballots_beside(rt: HostRuntime) -> Result<(), Fail> {
     let right = report_of(alloc, &right_tree)?;
     ballots_stand_beside(&rt, alloc, &left, &right)?;
     texts_stand_beside(&rt, alloc, &left, &right)
+}
+
+#[test]
+fn values_by_keys(rt: HostRuntime) -> Result<(), Fail> {
+    let alloc = rt.alloc();
+    let tree = Value::from_str(alloc, BALLOT)?;
+    let report = report_of(alloc, &tree)?;
+    values_are(&rt, alloc, &report)
 }
 
 #[test]
