@@ -5,6 +5,8 @@ pub mod BallotPairs  -- what a call on the ballots of two reports answers
 pub mod DataTexts
 pub mod Fronts  -- the front of a list that a piece shows
 pub mod FrontLaws  -- that a list has one front and one piece
+pub mod Together  -- that the pieces of a list are together the list
+pub mod TakenTexts  -- that the pieces of lines are together what an engine writes
 pub mod LineTexts  -- the object of a request
 pub mod PieceTexts  -- the answers that have a piece of a list
 pub mod PieceLines  -- the answers that have a piece of a list as lines

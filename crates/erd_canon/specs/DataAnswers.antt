@@ -75,7 +75,7 @@ pub record IsComparedData (π : Preference) (left right : List ℕ) (outcome : O
   pub compared : IsCompareData π left right outcome value
   pub is_text : IsDataText text value
 
--- The text is that of the value that listing the differences of the two inputs answers with this outcome.
+-- The text is that of the value that listing the differences answers with this outcome.
 pub record IsListedData (π : Preference) (left right : List ℕ) (outcome : Outcome) (text : List ℕ) : Type 0 where
   pub value : Data
   pub listed : IsListData π left right outcome value

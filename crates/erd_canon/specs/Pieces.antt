@@ -48,7 +48,7 @@ pub record IsPieceData {A : Type 0} (value_of : A → Data) (piece : Piece) (ent
   pub is_piece : IsPiece (λ entry. length (compact_text (value_of entry))) piece entries shown told
   pub is_array : value ≡ array (items_of (map value_of shown))
 
--- A line with these words in front, ended by one line feed.
+-- A line behind these words, ended by a line feed.
 abbrev pub whole_line : List ℕ → List ℕ → List ℕ
 whole_line side line = (side ++ line) ++ 10 ∷ []
 
@@ -100,7 +100,7 @@ pub record IsPieceText (Answers : Told → Data → Type 0) (told : Told) (text 
   pub answers : Answers told value
   pub is_text : IsDataText text value
 
--- The text is the canonical bytes of an accepted report, or that of why the bytes are refused, with a piece of the faults.
+-- The text is the canonical bytes of a report, or says why it is refused, with a piece of the faults.
 abbrev pub IsFormPiece : Preference → List ℕ → Piece → Outcome → Told → List ℕ → Type 0
 IsFormPiece π bytes piece Good told text = IsCanonicalBytes π bytes text × TellsNone told
 IsFormPiece π bytes piece Bad told text = IsPieceText (IsRefusalPiece π bytes piece Bad) told text
@@ -120,8 +120,7 @@ IsCheckLines π bytes piece Good told text = IsSomeReport π bytes × (text ≡ 
 IsCheckLines π bytes piece Bad told text = IsRefusalLines π [] bytes piece Bad told text
 IsCheckLines π bytes piece NotJson told text = IsRefusalLines π [] bytes piece NotJson told text
 
--- The text is the canonical bytes of an accepted report, or the lines that say why the bytes are refused, with a piece of the
--- faults.
+-- The text is the canonical bytes of a report, or has lines that say why it is refused, with a piece of the faults.
 abbrev pub IsFormLines : Preference → List ℕ → Piece → Outcome → Told → List ℕ → Type 0
 IsFormLines π bytes piece Good told text = IsCanonicalBytes π bytes text × TellsNone told
 IsFormLines π bytes piece Bad told text = IsRefusalLines π [] bytes piece Bad told text

@@ -23,6 +23,7 @@ pub use data::ballot_pairs::{ballot_differences_data_with, ballots_beside_data_w
 pub use data::ballots::{BallotsAsked, ballots_data_with};
 pub use data::check::{Answer, check_data, check_data_with};
 pub use data::compare::{compare_data, compare_data_with, differences_data, differences_data_with};
+pub use data::laws::{pieces_are_the_list, pieces_are_the_text, pieces_go_on};
 pub use data::line::{LineAnswer, command_line_data};
 pub use data::piece::{Piece, PieceAnswer, Told};
 pub use data::pieces::{

@@ -3,6 +3,7 @@ ghost use Rattle.erd_canon.specs.Words.{iter_rest, IterYieldsInOrder, Data, comm
 ghost use Rattle.erd_canon.specs.code.Fronts.{AppendsEntries, FitsIn, IsReached, size_in, text_in};
 ghost use Rattle.erd_canon.specs.code.RefusalData.{AppendsData};
 
+use crate::data::fault_lines::push_fault_line;
 use crate::data::fault_values::fault_value;
 use crate::data::notation::Notation;
 use crate::data::piece::Piece;
@@ -23,9 +24,9 @@ pub(crate) trait Listed {
         ensures text { IfOk result (λ text. string_bytes text ≡ compact_text (value self.now)) }
         ensures fits { OnOk result (HasFittingNumbers (value self.now)) };
 
-    /// Returns the line of the entry, without a line feed.
-    fn to_line(&self, alloc: Global) -> Result<String, AllocError>
-        ensures { IfOk result (λ text. string_bytes text ≡ line self.now) };
+    /// Appends the line of the entry, without a line feed.
+    fn push_line(&self, alloc: Global, text: &mut String) -> Result<(), AllocError>
+        ensures { OnOk result (string_bytes text.new ≡ string_bytes text.old ++ line self.now) };
 }
 
 impl Listed for Fault {
@@ -37,8 +38,8 @@ impl Listed for Fault {
         fault_value(alloc, self)?.to_string(alloc)
     }
 
-    fn to_line(&self, alloc: Global) -> Result<String, AllocError> {
-        self.line(alloc)
+    fn push_line(&self, alloc: Global, text: &mut String) -> Result<(), AllocError> {
+        push_fault_line(alloc, self, text)
     }
 }
 
@@ -51,8 +52,9 @@ impl Listed for DetailedDifference {
         self.to_value(alloc)?.to_string(alloc)
     }
 
-    fn to_line(&self, alloc: Global) -> Result<String, AllocError> {
-        self.difference.line(alloc)
+    fn push_line(&self, alloc: Global, text: &mut String) -> Result<(), AllocError> {
+        let line = self.difference.line(alloc)?;
+        text.push_str(line.as_str())
     }
 }
 
@@ -146,10 +148,9 @@ pub(crate) fn push_entry_line<T: Listed>(
     ensures size { IfOk result (λ size. size ≡ length (whole_line side.now (T.line entry.now))) }
     ensures wrote { OnOk result (string_bytes text.new ≡ string_bytes text.old ++ whole_line side.now (T.line entry.now)) }
 {
-    let line = entry.to_line(alloc)?;
     let before = text.len();
     text.push_str(side)?;
-    text.push_str(line.as_str())?;
+    entry.push_line(alloc, text)?;
     text.push('\n')?;
     Ok(text.len() - before)
 }

@@ -162,7 +162,7 @@ fn write_name<O: Sink>(out: &mut O, buffer: &mut Vec<u8>, name: &[u8]) -> Result
 }
 
 /// Returns whether a JSON Pointer has all bytes of the name as they are.
-fn is_plain(name: &[u8]) -> bool
+pub(crate) fn is_plain(name: &[u8]) -> bool
     ensures { IsTrue result → escaped_name name.now ≡ name.now }
 {
     for byte in name.iter() {
