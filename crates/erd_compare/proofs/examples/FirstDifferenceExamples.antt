@@ -1,4 +1,5 @@
 -- The first difference of whole reports, each of one unit: none, and one for each of some edits.
+use Rattle.erd_compare.proofs.Common.{◌++◌}
 use Rattle.erd_compare.proofs.Common.{[], ◌≡◌, ℕ, Bool, true, false, ◌≢◌, List, ◌∷◌, is_some, slice_get, Some, None, codes, Option, option_and_then, bytes_eq}
 use Rattle.erd_compare.proofs.Common.{is_eq, is_lt, unwrap_or, sym, refl, ap, ◌∙◌, true≢false, option_cmp, lit<, Data, null, string, class, Family, family}
 use Rattle.erd_compare.proofs.Common.{role, tree_of, election, one_unit, key_cmp, key_of, untranslated, a_json, a_label, MemberValue, a_plain, ObjectRecord}

@@ -1,5 +1,5 @@
 -- Reports with several elections: positions, keys and references across them, by computation.
-use Rattle.erd_meaning.proofs.Common.{◌≡◌, ℕ, true, false, List, [], ◌∷◌, map, Some, None, codes, Option, option_map, refl, serde_json_on_literals, Data}
+use Rattle.erd_meaning.proofs.Common.{◌++◌, ◌≡◌, ℕ, true, false, List, [], ◌∷◌, map, Some, None, codes, Option, option_map, refl, serde_json_on_literals, Data}
 use Rattle.erd_meaning.proofs.Common.{family, role, SelectionOfOtherContest, At, Name, tree_of, one_unit, two_elections, three_contests, fault_at, Preference}
 use Rattle.erd_meaning.proofs.Common.{key_in, rising_keys, election_key_in, election_in, selection_in, has_several, needs_key, election_of_place, Key}
 use Rattle.erd_meaning.proofs.examples.RecordExamples.{local_key}

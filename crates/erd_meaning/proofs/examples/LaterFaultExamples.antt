@@ -1,5 +1,5 @@
 -- Faults of identity, of references and of selections, as facts on small trees, by computation.
-use Rattle.erd_meaning.proofs.Common.{◌≡◌, ℕ, true, false, [], ◌∷◌, slice_get, Some, None, codes, option_and_then, unwrap_or, refl, lit<}
+use Rattle.erd_meaning.proofs.Common.{◌++◌, ◌≡◌, ℕ, true, false, [], ◌∷◌, slice_get, Some, None, codes, option_and_then, unwrap_or, refl, lit<}
 use Rattle.erd_meaning.proofs.Common.{serde_json_on_literals, Data, boolean, class, Family, DuplicateId, NoIdentifier, SelectionOfOtherContest, TwinIdentifier}
 use Rattle.erd_meaning.proofs.Common.{TwinSelection, WrongFamily, At, Name, tree_of, asked, Reference, IdentityFault, ReferenceFault, SelectionFault, a_json}
 use Rattle.erd_meaning.proofs.Common.{Placed, report_of, elections, objects, selection_record, name_in_class, name_of, role, family, key_named}

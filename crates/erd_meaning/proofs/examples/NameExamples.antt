@@ -1,5 +1,5 @@
 -- The keys that identifiers give by preference, and the names of selections, in small reports, by computation.
-use Rattle.erd_meaning.proofs.Common.{◌≡◌, ℕ, Bool, true, false, ◌&&◌, List, [], ◌∷◌, map, ℤ, pos, negsuc, Some, None, codes, Option, is_lt, refl}
+use Rattle.erd_meaning.proofs.Common.{◌++◌, ◌≡◌, ℕ, Bool, true, false, ◌&&◌, List, [], ◌∷◌, map, ℤ, pos, negsuc, Some, None, codes, Option, is_lt, refl}
 use Rattle.erd_meaning.proofs.Common.{serde_json_on_literals, Data, family, tree_of, small_ballot, small_ballot_canonical, NameParts, objects, name_of}
 use Rattle.erd_meaning.proofs.Common.{name_cmp, Key, Preference, key_of}
 use Rattle.erd_meaning.proofs.examples.RecordExamples.{local_key}

@@ -1,5 +1,5 @@
 -- What objects of the small ballot mean, in it and in its canonical form, by computation.
-use Rattle.erd_meaning.proofs.Common.{◌≡◌, ℕ, Bool, true, false, not, List, [], ◌∷◌, map, Some, None, codes, filter, Option, option_map, option_and_then}
+use Rattle.erd_meaning.proofs.Common.{◌++◌, ◌≡◌, ℕ, Bool, true, false, not, List, [], ◌∷◌, map, Some, None, codes, filter, Option, option_map, option_and_then}
 use Rattle.erd_meaning.proofs.Common.{bytes_eq, is_eq, unwrap_or, refl, ap, fun_ext, serde_json_on_literals, Data, null, boolean, string, families, unit_rows}
 use Rattle.erd_meaning.proofs.Common.{party_rows, person_rows, office_rows, header_rows, candidate_rows, rows_of_class, class, Family, family, kind, Step, At}
 use Rattle.erd_meaning.proofs.Common.{Name, tree_of, small_ballot, small_ballot_canonical, with_report_member, with_unit_member, entries_of, asked_at, key_cmp}
