@@ -131,6 +131,24 @@ equal('each piece has its own bytes', new TextDecoder().decode(pieces[0].bytes.s
 equal('what is taken of the pieces', [...erd.written('check', [many], {}, (bytes, status) => bytes.length * status)].map(({ bytes }) => bytes).join(),
     pieces.map(({ bytes }) => bytes.length).join());
 
+// All pieces of a list are those of one list that is open. A call for each of them would judge the report each time.
+const { Instance } = WebAssembly;
+const calls = {};
+const counted = (name, value) => typeof value !== 'function' ? value : (...words) => {
+    calls[name] = (calls[name] ?? 0) + 1;
+    return value(...words);
+};
+erd.rest();
+WebAssembly.Instance = class extends Instance {
+    get exports() {
+        return Object.fromEntries(Object.entries(super.exports).map(([name, value]) => [name, counted(name, value)]));
+    }
+};
+const lengths = [...erd.written('check', [many], {}, (bytes) => bytes.length)];
+WebAssembly.Instance = Instance;
+erd.rest();
+equal('one open list for all pieces', JSON.stringify([calls.erd_open, calls.erd_next, calls.erd_check_piece ?? 0]), JSON.stringify([1, lengths.length, 0]));
+
 // A list that is longer than a piece: in each of these contests a selection has another note.
 const oneUnit = readFileSync(new URL('one-unit.json', EXAMPLES)).toString();
 function contests(count, note, kind) {
