@@ -10,3 +10,5 @@ pub mod TakenTexts  -- that the pieces of lines are together what an engine writ
 pub mod LineTexts  -- the object of a request
 pub mod PieceTexts  -- the answers that have a piece of a list
 pub mod PieceLines  -- the answers that have a piece of a list as lines
+pub mod ValuedTexts  -- the text of the object of a difference with one more member
+pub mod ValuedLists  -- what the list of differences with their values answers

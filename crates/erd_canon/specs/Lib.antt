@@ -12,6 +12,8 @@ pub mod DataAnswers  -- what the calls answer as data
 pub mod BallotAnswers  -- what the calls on ballots answer as data
 pub mod Pieces  -- which entries of a list an answer has if its caller bounds them
 pub mod PiecesTaken  -- what a caller has who takes a list piece by piece
+pub mod ValuedData  -- the JSON values of differences with what each report has there
+pub mod ValuedAnswers  -- what the call answers that lists them
 pub mod Writing  -- what a writer holds after a failed write
 pub mod Devices  -- what contracts know of readers and writers
 pub mod Engines  -- all that a run of each engine does to its devices

@@ -73,15 +73,15 @@ pub record IsCompareWritten (π : Preference) (left right : List ℕ) (outcome :
   pub compared : IsCompared π left right outcome text
   pub wrote : Appends before after text
 
--- If the bytes of the devices are known: the reader was read to its end within the limit, and checking its bytes ends with
--- this outcome. What checking writes was written, and nothing else.
+-- What is known of a check with this outcome. If the bytes of the devices are known: the reader was read to its end within the
+-- limit, and checking its bytes ends with this outcome. What checking writes was written, and nothing else.
 pub record IsWholeCheck (π : Preference) (limit : ℕ) (outcome : Outcome) (before after out_before out_after : Option (List ℕ)) : Type 0 where
   pub input : List ℕ
   pub whole : IsReadWhole limit before after input
   pub written : IsCheckWritten π input outcome out_before out_after
 
--- If the bytes of the devices are known: the reader was read to its end within the limit, and canonicalising its bytes ends
--- with this outcome. What that writes was written, and nothing else.
+-- What is known of canonicalising with this outcome. If the bytes of the devices are known: the reader was read to its end
+-- within the limit, and canonicalising its bytes ends with this outcome. What that writes was written, and nothing else.
 pub record IsWholeRun (π : Preference) (limit : ℕ) (outcome : Outcome) (before after out_before out_after err_before err_after : Option (List ℕ)) : Type 0 where
   pub input : List ℕ
   pub whole : IsReadWhole limit before after input
@@ -100,8 +100,8 @@ pub record IsRefusedInput (π : Preference) (limit : ℕ) (before after : Option
   pub whole : IsReadWhole limit before after input
   pub refused : IsRefusal π input lines
 
--- If the bytes of the devices are known: both readers were read to their ends within the limit, and comparing their bytes
--- ends with this outcome. What comparing writes was written, and nothing else.
+-- What is known of a comparison with this outcome. If the bytes of the devices are known: both readers were read to their ends
+-- within the limit, and comparing their bytes ends with this outcome. What comparing writes was written, and nothing else.
 pub record IsWholeCompare (π : Preference) (limit : ℕ) (outcome : Outcome) (left_before left_after right_before right_after out_before out_after : Option (List ℕ)) : Type 0 where
   pub left : List ℕ
   pub right : List ℕ

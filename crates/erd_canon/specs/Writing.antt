@@ -37,22 +37,22 @@ pub record IsAnswerPartWritten (π : Preference) (bytes : List ℕ) (out_before 
   pub part_out : IsPartWritten out_before out_after out_text
   pub part_err : IsPartWritten err_before err_after err_text
 
--- If the bytes of the devices are known: the reader was read to its end within the limit, and a first part of each text of
--- canonicalising its bytes was written, and nothing else.
+-- What is known of canonicalising that failed to write. If the bytes of the devices are known: the reader was read to its end
+-- within the limit, and a first part of each text of canonicalising its bytes was written, and nothing else.
 pub record IsBrokenRun (π : Preference) (limit : ℕ) (before after out_before out_after err_before err_after : Option (List ℕ)) : Type 0 where
   pub input : List ℕ
   pub whole : IsReadWhole limit before after input
   pub written : IsAnswerPartWritten π input out_before out_after err_before err_after
 
--- If the bytes of the devices are known: the reader was read to its end within the limit, and a first part of the text of
--- checking its bytes was written, and nothing else.
+-- What is known of a check that failed to write. If the bytes of the devices are known: the reader was read to its end within
+-- the limit, and a first part of the text of checking its bytes was written, and nothing else.
 pub record IsBrokenCheck (π : Preference) (limit : ℕ) (before after out_before out_after : Option (List ℕ)) : Type 0 where
   pub input : List ℕ
   pub whole : IsReadWhole limit before after input
   pub written : IsCheckPartWritten π input out_before out_after
 
--- If the bytes of the devices are known: both readers were read to their ends within the limit, and a first part of the text
--- of comparing their bytes was written, and nothing else.
+-- What is known of a comparison that failed to write. If the bytes of the devices are known: both readers were read to their
+-- ends within the limit, and a first part of the text of comparing their bytes was written, and nothing else.
 pub record IsBrokenCompare (π : Preference) (limit : ℕ) (left_before left_after right_before right_after out_before out_after : Option (List ℕ)) : Type 0 where
   pub left : List ℕ
   pub right : List ℕ

@@ -15,3 +15,5 @@ pub(crate) mod piece;
 pub(crate) mod pieces;
 mod refusals;
 pub(crate) mod texts;
+mod valued;
+pub(crate) mod valued_pieces;

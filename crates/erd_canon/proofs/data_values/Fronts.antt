@@ -148,7 +148,7 @@ ended size text_of Has piece entries before text left is = record {
 
 -- ---- the entries as an array
 
-joined_items : {A : Type 0} (value_of : A → Data) (later : Bool) (xs : List A)
+pub joined_items : {A : Type 0} (value_of : A → Data) (later : Bool) (xs : List A)
     → joined_text (λ later x. comma_if later ++ compact_text (value_of x)) later xs ++ 93 ∷ [] ≡ items_text later (items_of (map value_of xs))
 joined_items value_of later [] = refl
 joined_items value_of later (x ∷ xs) =

@@ -31,7 +31,7 @@ differences_text piece found told before text none a utf8 =
 
 -- ---- the answers
 
-why_is : (π : Preference) (bytes : List ℕ) (piece : Piece) (outcome : Outcome) (told : Told) (refused : Refusal) (why : Data) → RefusedAs π bytes refused → TellsPieceAs piece outcome told refused why
+pub why_is : (π : Preference) (bytes : List ℕ) (piece : Piece) (outcome : Outcome) (told : Told) (refused : Refusal) (why : Data) → RefusedAs π bytes refused → TellsPieceAs piece outcome told refused why
     → IsRefusalPiece π bytes piece outcome told why
 why_is π bytes piece Bad told (refusal.Faults faults) why (is, none) tells = (faults, is, tells)
 why_is π bytes piece NotJson told refusal.NotJson why not tells = (not, tells.0, tells.1)

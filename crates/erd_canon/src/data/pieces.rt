@@ -185,7 +185,11 @@ fn refused(alloc: Global, refusal: &Refusal, piece: &Piece) -> Result<PieceAnswe
 }
 
 /// Returns the answer if the report on one side is refused.
-fn refused_side(alloc: Global, side: &Side, piece: &Piece) -> Result<PieceAnswer, AllocError>
+pub(crate) fn refused_side(
+    alloc: Global,
+    side: &Side,
+    piece: &Piece,
+) -> Result<PieceAnswer, AllocError>
     ensures { IfOk result (λ answer. AnswersData (TellsSideAs (TellsPieceAs piece.now answer.outcome answer.told) side.now) answer.text.items) }
 {
     match side {

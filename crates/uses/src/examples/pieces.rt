@@ -2,6 +2,7 @@
 use crate::tests::{BARE, OTHER_NAME, REPORT};
 use erd_canon::{
     Piece, canonical_data_piece, check_data_piece, compare_data_piece, differences_data_piece,
+    differences_values_piece,
 };
 use std::test::Fail;
 
@@ -59,5 +60,22 @@ fn no_second_difference(rt: HostRuntime) -> Result<(), Fail> {
     let answer = differences_data_piece(alloc, one, other, None, &piece)?;
     assert!(rt; answer.text.as_slice() == "[]".as_bytes());
     assert!(rt; answer.outcome.status() == 1 && answer.told.all == 1);
+    Ok(())
+}
+
+// The only difference of the two reports, with what each of them has there.
+const NAMES: &str =
+    r#"[{"how":"member","key":null,"member":"Name","part":"election","values":{"left":"Test","right":"Other"}}]"#;
+
+#[test]
+fn values_of_the_only_difference(rt: HostRuntime) -> Result<(), Fail> {
+    let (alloc, one, other) = (rt.alloc(), REPORT.as_bytes(), OTHER_NAME.as_bytes());
+    let piece = Piece {
+        first: 0,
+        most: 1_000,
+        enough_bytes: 1_048_576,
+    };
+    let answer = differences_values_piece(alloc, one, other, None, &piece)?;
+    assert!(rt; answer.text.as_slice() == NAMES.as_bytes());
     Ok(())
 }
