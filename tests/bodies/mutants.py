@@ -51,7 +51,7 @@ AREAS = {
     'bindings/python/src/erd/*.py': [*(PYTEST + f'test_{name}.py' for name in ('calls', 'ballots', 'prepare', 'resume', 'suite', 'commands', 'many')), LINES],
     'bindings/js/lib/prepare/*.mjs': [MODULE, *STEPS],
     'bindings/js/lib/*.mjs': [MODULE, COMMAND, *PARTS, 'tests/forms/javascript_package.sh'],
-    'web/scripts/from_xml/*.mjs': ['tests/page/page.sh xml_form xml_agree'],
+    'web/scripts/from_xml/*.mjs': ['node tests/page/shown.mjs', 'tests/page/page.sh xml_form xml_agree'],
     'web/scripts/*.mjs': [*PARTS, 'tests/page/page.sh flows results ballots', 'tests/page/page.sh notices lines growing voter record filed prepared '
                           'many named spanish keyboard hostile bounds accessibility'],
 }

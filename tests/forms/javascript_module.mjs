@@ -192,6 +192,10 @@ equal('an ArrayBuffer', erd.canonical(new Uint8Array(bytes).buffer).text, form);
 equal('a string', erd.canonical(bytes.toString()).text, form);
 equal('the number of differences', erd.differences(bytes, bytes).allDifferences, 0);
 equal('no bytes', erd.check(new Uint8Array(0)).outcome, 'not JSON');
+const TELLING = [(report, mostFaults) => erd.check(report, { mostFaults }), (report, mostFaults) => erd.canonical(report, { mostFaults }),
+    (report, mostFaults) => erd.compare(report, report, { mostFaults }), (report, mostDifferences) => erd.differences(report, report, { mostDifferences })];
+equal('whether there is more than is listed', TELLING.map((tell) => [tell('{}', 1).more, tell('{}', 0).more, tell(bytes, 1).more].join()).join(' '),
+    Array(4).fill('false,true,false').join(' '));
 equal('the report stays as it is', Buffer.compare(bytes, readFileSync(new URL('small-ballot.json', EXAMPLES))), 0);
 equal('the preference null', erd.check(bytes, { prefer: null }).outcome, 'accepted');
 equal('the empty preference', erd.check(bytes, { prefer: '' }).outcome, 'accepted');

@@ -9,7 +9,9 @@ import { counts, equal, ROOT } from './counted.mjs';
 
 const SUITE = new URL('out/conformance/', ROOT);
 const erd = await load(readFileSync(new URL('out/portable/erd.wasm', ROOT)));
-const SEEN = { Candidate: { BallotName: 'seen', FileDate: 'unseen' }, CandidateContest: { VotesAllowed: 'seen' } };
+// What a voter sees, by class: a class that has no words here has none for its members.
+const WORDS = { Candidate: { BallotName: 'seen', FileDate: 'unseen' }, CandidateContest: { VotesAllowed: 'seen' } };
+const SEEN = new Proxy(WORDS, { get: (words, name) => words[name] ?? {} });
 const quiet = () => {};
 const sumOf = (bytes) => createHash('sha256').update(bytes).digest('hex');
 const textOf = (bytes) => new TextDecoder('utf-8', { ignoreBOM: true }).decode(bytes);
@@ -54,6 +56,8 @@ async function tryOne(name, input, prefer) {
     const made = judgement.canonical({ index: 0 }, quiet);
     equal(`${name}: form`, made && textOf(made), form && textOf(form));
     equal(`${name}: a part`, textOf(judgement.part({ index: 0, start: 1, end: 4 })), textOf(input.subarray(1, 4)));
+    const isOfResults = /(^|\n)\/Status: not pre-election\n/.test(text);
+    equal(`${name}: the status of a file that is not from before the election`, told.status, isOfResults ? JSON.parse(textOf(input)).Status : undefined);
     if (told.outcome === 'refused') {
         tryFaults(name, judgement, text, told.faults);
     }
@@ -131,6 +135,21 @@ equal('a changed name and number: on the ballots', found.map(({ what, role, left
     ['choice.words | name | Ingrith Sablewood | Ingrid Sablewood', 'words | votes | Vote for 1 | Vote for up to 2']);
 equal('a changed name and number: words find one', pair.someOnBallots({ words: 'ingrid', from: 0, count: 9 }, quiet).count, 1);
 
+// One vendor has codes of its own beside the others: without these, the files say the same. An object that has no other code keeps its own.
+const own = JSON.parse(textOf(one));
+const code = (Value) => ({ '@type': 'ElectionResults.ExternalIdentifier', Type: 'other', OtherType: 'vendor', Value });
+own.Party.forEach((party, at) => party.ExternalIdentifier.push(code(`P${at}`)));
+const alone = JSON.parse(JSON.stringify(own));
+alone.Header[0].ExternalIdentifier = [code('H')];
+// The header is another one then, and so is what each ballot that has it lists.
+const changes = 2 + own.Election[0].BallotStyle.filter((style) => JSON.stringify(style).includes(`"HeaderId":"${own.Header[0]['@id']}"`)).length;
+for (const [what, made, wanted] of [['other codes', own, [[['other vendor'], []], 0]], ['a code and no other', alone, [[['other vendor'], []], changes]]]) {
+    const view = judgementOf([Buffer.from(JSON.stringify(made)), two]);
+    await view.verdict(quiet);
+    const { types, count } = view.ownView({}, quiet);
+    equal(`without ${what}`, [types, count], wanted);
+}
+
 // What a file has, counted here by its arrays.
 const whole = judgementOf([one]);
 await whole.verdict(quiet);
@@ -140,6 +159,11 @@ const overview = whole.overview({}, quiet);
 equal('what a file has', overview.counts, { ...overview.counts, style: election.BallotStyle.length, contest: election.Contest.length,
     candidate: election.Candidate.length, party: report.Party.length, office: report.Office.length, person: report.Person.length,
     header: report.Header.length, unit: report.GpUnit.length });
+const precincts = report.GpUnit.filter(({ Type }) => /precinct/.test(Type));
+const onStyles = new Set(election.BallotStyle.flatMap((style) => style.GpUnitIds));
+equal('its precincts, each on one ballot style', [overview.precincts, precincts.every((unit) => onStyles.has(unit['@id']))],
+    [{ all: precincts.length, none: 0, several: 0 }, true]);
+equal('each contest is on a ballot', overview.unlisted, { count: 0, names: [] });
 equal('its languages', whole.languages({}, quiet), ['en-US', 'es-US'].filter((tag) => textOf(one).includes(`"${tag}"`)));
 const [facts] = await whole.sums({}, quiet);
 equal('its head', [facts.isTest, facts.envelope.Issuer, facts.elections.map(({ start, end }) => `${start} ${end}`)],
