@@ -32,6 +32,7 @@ PROMISES = [
     ('Answers as data (`check_data`, `compare_data`, `differences_data`)', [
         'erd_canon/DataAnswers.IsCheckedData', 'erd_canon/DataAnswers.IsComparedData', 'erd_canon/DataAnswers.IsListedData']),
     ('The steps that prepare a report (`prepare`)', ['erd_prepare/Laws.UntoldStays', 'erd_prepare/Laws.UntoldIsUnchanged', 'erd_prepare/Steps.IsStepDone']),
+    ('What is told of steps (`told`)', ['erd_prepare/Tellings.IsTellingAdded', 'erd_prepare/Tellings.AreNumbersInFront', 'erd_prepare/Numbers.AreChangedNumbers']),
     ('A file that is prepared (`prepare_bytes`)', ['erd_prepare/Steps.IsNamedStepDone', 'erd_prepare/Preparations.IsPrepared',
                                                    'erd_prepare/Preparations.IsUnprepared']),
     ('What the engines for ballots and for steps write (`run_ballots`, `run_prepare`)', [

@@ -2,7 +2,7 @@
 ghost use Rattle.std.specs.Prelude.{◌≡◌, ◌<◌, ◌⊎◌, ◌++◌, ◌∷◌, Err, List, length, IfErr, IfOk, OnOk};
 ghost use Rattle.erd_canon.specs.Limits.{most_bytes};
 ghost use Rattle.erd_prepare.specs.declared.step_name.StepName.{StepName};
-ghost use Rattle.erd_c.specs.Prepared.{IsChosenBy, IsPrepareCall, IsPreparedText, IsUnpreparedBy, prepared_text};
+ghost use Rattle.erd_c.specs.Prepared.{IsChosenBy, IsPrepareCall, IsPreparedText, IsUnpreparedBy, others_asked, prepared_text};
 
 use crate::told::{Told, put, textless};
 use erd_canon::MOST_BYTES;
@@ -26,7 +26,7 @@ pub extern "C" fn erd_tell_prepared(
     others: bool,
     room: &mut [u8],
 ) -> Told
-    ensures { IsPrepareCall bytes.now words.now result room.old room.new }
+    ensures { IsPrepareCall bytes.now words.now others result room.old room.new }
 {
     match prepared(alloc, bytes, words, others) {
         Ok(text) => {
@@ -42,7 +42,7 @@ pub extern "C" fn erd_tell_prepared(
 
 // What was done as a line of JSON, and the prepared report; or the outcome that says why there is none.
 fn prepared(alloc: Global, bytes: &[u8], words: &[u8], others: bool) -> Result<Vec<u8>, u32>
-    ensures prepared { IfOk result (λ text. IsPreparedText bytes.now words.now text.items) }
+    ensures prepared { IfOk result (λ text. IsPreparedText bytes.now words.now others text.items) }
     ensures refused { IfErr result (IsUnpreparedBy bytes.now words.now) }
     ensures long { most_bytes < length bytes.now → result ≡ Err 3 }
 {
@@ -50,11 +50,21 @@ fn prepared(alloc: Global, bytes: &[u8], words: &[u8], others: bool) -> Result<V
         return Err(3);
     }
     let chosen = steps_of(alloc, words)?;
-    let others = if others { Others::Told } else { Others::Untold };
-    match prepare_bytes(alloc, bytes, &chosen, others) {
+    match prepare_bytes(alloc, bytes, &chosen, others_asked(others)) {
         Ok(file) => text_of(file),
         Err(PrepareError::NotJson) => Err(2),
         Err(PrepareError::Memory) => Err(4),
+    }
+}
+
+// Whether it is told what the steps would do that are not chosen.
+fn others_asked(others: bool) -> Others
+    ensures { result ≡ others_asked others }
+{
+    if others {
+        Others::Told
+    } else {
+        Others::Untold
     }
 }
 

@@ -9,6 +9,7 @@ use Rattle.erd_prepare.specs.Preparations.{IsPrepared}
 use Rattle.erd_prepare.specs.StepWords.{group_of, name_of_group, name_of_step, steps_chosen}
 use Rattle.erd_prepare.specs.Steps.{IsNamedStepDone}
 use Rattle.erd_prepare.specs.declared.engine.Done.{Done}
+use Rattle.erd_prepare.specs.declared.step_done.Others.TheVariants.{Told, Untold}
 use Rattle.erd_prepare.specs.declared.step_done.PreparedBytes.{PreparedBytes}
 use Rattle.erd_prepare.specs.declared.step_done.StepDone.{StepDone}
 use Rattle.erd_prepare.specs.declared.step_name.StepName.{StepName}
@@ -67,7 +68,7 @@ pub record AreNotJsonTexts (outcome : Outcome) (out err : List ℕ) : Type 0 whe
 -- Preparing the bytes by these steps ends with this outcome and writes these texts, one to its output and one to its errors.
 abbrev pub IsPreparedAs : Preference → List StepName → List ℕ → Outcome → List ℕ → List ℕ → Type 0
 IsPreparedAs π chosen bytes outcome out err =
-    (IsNotJson bytes × AreNotJsonTexts outcome out err) ⊎ ((file : PreparedBytes) × IsPrepared bytes chosen file × AreFileTexts π file outcome out err)
+    (IsNotJson bytes × AreNotJsonTexts outcome out err) ⊎ ((file : PreparedBytes) × IsPrepared bytes chosen Untold file × AreFileTexts π file outcome out err)
 
 -- The name of a step with that of its group.
 abbrev pub grouped_text : StepName → List ℕ
@@ -105,7 +106,7 @@ pub record AreToldTexts (file : PreparedBytes) (outcome : Outcome) (out err : Li
 -- Telling what these steps do on the bytes ends with this outcome and writes these texts.
 abbrev pub IsPreparationTold : List StepName → List ℕ → Outcome → List ℕ → List ℕ → Type 0
 IsPreparationTold chosen bytes outcome out err =
-    (IsNotJson bytes × AreNotJsonTexts outcome out err) ⊎ ((file : PreparedBytes) × IsPrepared bytes chosen file × AreToldTexts file outcome out err)
+    (IsNotJson bytes × AreNotJsonTexts outcome out err) ⊎ ((file : PreparedBytes) × IsPrepared bytes chosen Told file × AreToldTexts file outcome out err)
 
 -- The run on the input ends with this outcome. If the bytes of the writers are known, its texts were written, and nothing else.
 pub record AreTextsWritten (Answers : List ℕ → Outcome → List ℕ → List ℕ → Type 0) (bytes : List ℕ) (outcome : Outcome) (out_before out_after err_before err_after : Option (List ℕ)) : Type 0 where

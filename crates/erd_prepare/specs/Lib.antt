@@ -15,6 +15,7 @@ pub mod Steps
 pub mod StepWords
 pub mod Reading
 pub mod Numbers
+pub mod Tellings
 pub mod Preparations
 pub mod Laws
 pub mod code

@@ -1,19 +1,20 @@
 -- Steps that leave out members by what stands there alone.
-use Rattle.std.specs.Prelude.{ℕ, List, [], Bool, true, false, not, ◌&&◌, ◌||◌, Option, Some, None, codes, option_map}
-use Rattle.std.specs.Float.{float_zero}
-use Rattle.std.specs.Float.Ieee.{eq}
+use Rattle.std.specs.Prelude.{ℕ, ℤ, List, [], Bool, true, false, not, ◌&&◌, ◌||◌, Option, Some, None, Float, codes, option_map}
+use Rattle.std.specs.Float.{binary64, float_to_signed, float_zero}
+use Rattle.std.specs.Float.Ieee.{eq, of_int}
+use Rattle.std.specs.Int.{w64}
 use Rattle.std.specs.Option.{option_map_or}
 use Rattle.std.specs.Str.{bytes_eq}
-use Rattle.serde_json.specs.Data.{Data, null, boolean, number, string, array, object, Items, no_items, item, Members, no_members, member}
+use Rattle.serde_json.specs.Data.{Data, null, boolean, number, float, string, array, object, Items, no_items, item, Members, no_members, member}
 use Rattle.serde_json.specs.Find.{as_number, get, to_float}
 use Rattle.erd_tables.specs.Table.{is_required}
 use Rattle.erd_tables.specs.declared.member.MemberKind.TheVariants as kind
-use Rattle.erd_check.specs.Faults.{is_empty_array, is_object}
+use Rattle.erd_check.specs.Faults.{is_array, is_empty_array, is_object}
 use Rattle.erd_check.specs.Wants.{want_of_name}
 use Rattle.erd_check.specs.declared.want.Scope.{Scope}
 use Rattle.erd_check.specs.declared.want.Scope.TheVariants as scope
 use Rattle.erd_check.specs.declared.want.Want.{Want}
-use Rattle.erd_check.specs.declared.want.Want.TheVariants.{Member}
+use Rattle.erd_check.specs.declared.want.Want.TheVariants.{Carried, Member}
 use Rattle.erd_prepare.specs.Rules.{Rule, scope_in}
 
 -- A step that leaves out these members and does nothing else.
@@ -47,9 +48,51 @@ abbrev pub is_stray_identity : Option Want → Bool
 is_stray_identity (Some (Member kind.StrangeIdentity required)) = true
 is_stray_identity w = false
 
--- Coordinates of places, which are numbers with fractions.
+-- ---- positions on a map
+
+-- True for a float that is not this whole number.
+abbrev pub is_no_whole : Float → ℤ → Bool
+is_no_whole x z = not (eq (of_int binary64 z) x)
+
+-- True for a number with a fraction.
+abbrev pub is_fraction : Data → Bool
+is_fraction (number (float x)) = is_no_whole x (float_to_signed w64 x)
+is_fraction d = false
+
+-- True for a number with a fraction, and for a list in which there is one, in a list of it too.
+abbrev mutual
+  pub holds_fraction : Data → Bool
+  holds_fraction null = false
+  holds_fraction (boolean b) = false
+  holds_fraction (number n) = is_fraction (number n)
+  holds_fraction (string s) = false
+  holds_fraction (array ds) = items_hold_fraction ds
+  holds_fraction (object ms) = false
+
+  pub items_hold_fraction : Items → Bool
+  items_hold_fraction no_items = false
+  items_hold_fraction (item d ds) = holds_fraction d || items_hold_fraction ds
+
+-- The names of the two parts of a position (SP 1500-100, LatLng).
+abbrev pub is_degree_name : List ℕ → Bool
+is_degree_name name = bytes_eq name (codes "Latitude") || bytes_eq name (codes "Longitude")
+
+-- True for a carried value.
+abbrev pub is_carried_want : Option Want → Bool
+is_carried_want (Some Carried) = true
+is_carried_want w = false
+
+-- True for a member that may be a degree, or a list of positions.
+abbrev pub may_be_geographic : List ℕ → Data → Bool
+may_be_geographic name d = is_degree_name name || is_array d
+
+-- A degree, or a list of positions, in a member that a vendor has in the place of a `LatLng`.
+abbrev pub is_geographic : Option Want → List ℕ → Data → Bool
+is_geographic w name d = is_carried_want w && (may_be_geographic name d && holds_fraction d)
+
+-- Positions of places.
 abbrev pub is_coordinate : Scope → List ℕ → Data → Bool
-is_coordinate s name d = bytes_eq name (codes "LatLng")
+is_coordinate s name d = bytes_eq name (codes "LatLng") || is_geographic (want_of_name s name) name d
 
 -- The names of members that are on no ballot.
 abbrev pub is_off_ballot_name : List ℕ → Bool

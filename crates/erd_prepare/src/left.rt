@@ -2,6 +2,7 @@
 ghost use Rattle.std.specs.Prelude.{◌≡◌, [], Some, IfOk};
 ghost use Rattle.serde_json.specs.View.{view};
 ghost use Rattle.erd_prepare.specs.Steps.{IsStepDone};
+ghost use Rattle.erd_prepare.specs.Tellings.{left_reason_text};
 
 use crate::engine::Done;
 use crate::plan::{Plan, carry_out};
@@ -38,7 +39,9 @@ pub enum LeftReason {
 
 impl LeftReason {
     /// Returns the key of the reason's words.
-    pub fn text(self) -> &'static str {
+    pub fn text(self) -> &'static str
+        ensures { result.now ≡ left_reason_text self }
+    {
         match self {
             LeftReason::NoCounty => "noCounty",
             LeftReason::NoTown => "noTown",

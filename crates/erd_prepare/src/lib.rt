@@ -10,6 +10,7 @@ mod class_names;
 mod codes;
 mod devices;
 mod engine;
+mod geography;
 mod gone_candidates;
 mod kinds;
 mod known_objects;

@@ -13,6 +13,7 @@ ghost use Rattle.erd_prepare.specs.Rules.{prepared, told};
 
 use crate::asked::scope_in;
 use crate::engine::{Done, prepare};
+use crate::geography::is_geographic;
 use crate::mender::Mender;
 use erd_check::path::Path;
 use erd_check::values::is_empty_array;
@@ -24,7 +25,7 @@ use std::alloc::{AllocError, Global};
 /// The members that a step leaves out.
 #[derive(Clone, Copy)]
 pub enum Local {
-    /// `LatLng`.
+    /// `LatLng`, and the positions that a vendor writes in its place.
     Coordinates,
     /// `OfficeGroup`, `ElectionAdministration` and `PartyRegistration`.
     Outside,
@@ -115,10 +116,10 @@ impl Mender for Local {
     }
 }
 
-fn is_coordinate(_scope: Scope, name: &str, _value: &Value) -> bool
-    ensures { result ≡ is_coordinate _scope name.now (view _value.now) }
+fn is_coordinate(scope: Scope, name: &str, value: &Value) -> bool
+    ensures { result ≡ is_coordinate scope name.now (view value.now) }
 {
-    name == "LatLng"
+    name == "LatLng" || is_geographic(want_in(scope, name), name, value)
 }
 
 fn is_off_ballot(scope: Scope, name: &str, value: &Value) -> bool

@@ -1,4 +1,6 @@
 //! The place in the report that was given of what stands at a place after some steps.
+ghost use Rattle.std.specs.Prelude.{◌≡◌, [], IfOk};
+
 use crate::change::Change;
 use erd_tables::{Step, Text};
 use serde_json::Value;
@@ -102,7 +104,12 @@ pub(crate) fn origin_of(
     alloc: Global,
     place: Vec<Step>,
     moves: &Vec<Moves>,
-) -> Result<Vec<Step>, AllocError> {
+) -> Result<Vec<Step>, AllocError>
+    ensures { IfOk result (λ origin. moves.now.items ≡ [] → origin.items ≡ place.items) }
+{
+    if moves.is_empty() {
+        return Ok(place);
+    }
     let mut origin = place;
     for step in moves.iter().rev() {
         origin = step.before(alloc, &origin)?;

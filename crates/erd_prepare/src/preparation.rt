@@ -1,11 +1,15 @@
 //! A report that is prepared by several steps.
-ghost use Rattle.std.specs.Prelude.{Decides, IfErr, IfOk};
+ghost use Rattle.std.specs.Prelude.{◌≡◌, [], List, map, Decides, IfErr, IfOk, OnOk};
 ghost use Rattle.std.specs.List.{Contains};
 ghost use Rattle.serde_json.specs.View.{view};
-ghost use Rattle.erd_prepare.specs.Preparations.{AreStepsDone, IsPrepared, IsStepAdded, IsUnprepared};
+ghost use Rattle.erd_prepare.specs.Preparations.{AreStepsDone, IsOtherTold, IsPrepared, IsStepAdded, IsUnmoved, IsUnprepared};
 ghost use Rattle.erd_prepare.specs.Reading.{IsReadAs};
+ghost use Rattle.erd_prepare.specs.StepWords.{name_of_step};
+ghost use Rattle.erd_prepare.specs.Tellings.{AreNumbersInFront, IsTellingAdded, is_quiet};
 
+use crate::change::Change;
 use crate::changed_number::ChangedNumber;
+use crate::engine::Done;
 use crate::numbers::changed_numbers;
 use crate::origins::Moves;
 use crate::prepare_error::PrepareError;
@@ -31,14 +35,15 @@ pub fn prepare_bytes(
     chosen: &[StepName],
     others: Others,
 ) -> Result<PreparedBytes, PrepareError>
-    ensures prepared { IfOk result (IsPrepared bytes.now chosen.now) }
+    ensures prepared { IfOk result (IsPrepared bytes.now chosen.now others) }
     ensures refused { IfErr result (IsUnprepared bytes.now) }
 {
     let report = report_of(alloc, bytes)?;
     let prepared = do_steps(alloc, &report, chosen, others)?;
     let written = prepared.tree.to_vec(alloc)?;
     let numbers = changed_numbers(alloc, bytes)?;
-    let told = with_numbers(alloc, &numbers, prepared.told)?.to_vec(alloc)?;
+    let all = Value::Array(with_numbers(alloc, &numbers, prepared.told)?);
+    let told = all.to_vec(alloc)?;
     Ok(PreparedBytes {
         bytes: written,
         numbers,
@@ -47,21 +52,20 @@ pub fn prepare_bytes(
     })
 }
 
-/// Returns what is told as a JSON array: the numbers that change, if any do, and what the steps did.
+/// Returns what is told: the numbers that change, if any do, and what the steps did.
 fn with_numbers(
     alloc: Global,
     numbers: &Vec<ChangedNumber>,
     told: Vec<Value>,
-) -> Result<Value, AllocError> {
+) -> Result<Vec<Value>, AllocError>
+    ensures { IfOk result (λ all. AreNumbersInFront numbers.now.items (map view told.items) (map view all.items)) }
+{
     if numbers.is_empty() {
-        return Ok(Value::Array(told));
+        return Ok(told);
     }
-    let mut all = Vec::with_capacity(alloc, told.len().saturating_add(1))?;
-    all.push(numbers_value(alloc, numbers)?)?;
-    for entry in told {
-        all.push(entry)?;
-    }
-    Ok(Value::Array(all))
+    let mut all = told;
+    all.insert(0, numbers_value(alloc, numbers)?)?;
+    Ok(all)
 }
 
 /// Reads a report.
@@ -88,7 +92,7 @@ pub fn do_steps(
     chosen: &[StepName],
     others: Others,
 ) -> Result<Prepared, AllocError>
-    ensures done { IfOk result (λ prepared. AreStepsDone chosen.now (view report.now) STEPS prepared.steps.items (view prepared.tree)) }
+    ensures done { IfOk result (λ prepared. AreStepsDone others chosen.now (view report.now) STEPS prepared.steps.items (view prepared.tree) (map view prepared.told.items)) }
 {
     let mut tree = report.clone()?;
     let mut steps = Vec::new(alloc);
@@ -100,8 +104,8 @@ pub fn do_steps(
     for step in STEPS {
         if is_chosen(chosen, step) {
             tree = after_step(step, &tree, &mut steps, &mut so_far)?;
-        } else if others == Others::Told {
-            tell_other(step, &tree, &mut so_far)?;
+        } else {
+            tell_other(step, &tree, others, &mut so_far)?;
         }
     }
     Ok(Prepared {
@@ -126,6 +130,39 @@ struct SoFar {
     told: Vec<Value>,
 }
 
+impl SoFar {
+    /// Tells what a step did, or would do, if it changes or leaves something.
+    fn tell(&mut self, turn: Turn, before: &Value, done: &Done) -> Result<(), AllocError>
+        ensures told { OnOk result (IsTellingAdded (name_of_step turn.step) turn.is_done (self.old.moves.items ≡ []) done.now.changes.items done.now.left.items
+            (map view self.old.told.items) (map view self.new.told.items)) }
+        ensures moves { self.new.moves ≡ self.old.moves }
+    {
+        if !is_quiet(done) {
+            let value = told_value(self.alloc, turn, before, done, &self.moves)?;
+            self.told.push(value)?;
+        }
+        Ok(())
+    }
+
+    /// Notes what a step moved.
+    fn note_moves(&mut self, changes: &Vec<Change>) -> Result<(), AllocError>
+        ensures moves { OnOk result (changes.now.items ≡ [] → self.new.moves ≡ self.old.moves) }
+        ensures told { self.new.told ≡ self.old.told }
+    {
+        if !changes.is_empty() {
+            self.moves.push(Moves::of(self.alloc, changes)?)?;
+        }
+        Ok(())
+    }
+}
+
+/// Returns whether a step changes and leaves nothing.
+fn is_quiet(done: &Done) -> bool
+    ensures { result ≡ is_quiet done.now.changes.items done.now.left.items }
+{
+    done.changes.is_empty() && done.left.is_empty()
+}
+
 /// Does a step, and adds what it did.
 fn after_step(
     step: StepName,
@@ -133,19 +170,17 @@ fn after_step(
     steps: &mut Vec<StepDone>,
     so_far: &mut SoFar,
 ) -> Result<Value, AllocError>
-    ensures { IfOk result (λ after. IsStepAdded step (view before.now) steps.old.items steps.new.items (view after)) }
+    ensures { IfOk result (λ after. (IsUnmoved steps.old.items → so_far.old.moves.items ≡ [])
+        → IsStepAdded step (view before.now) steps.old.items steps.new.items (view after) (map view so_far.old.told.items) (map view so_far.new.told.items)
+        × (IsUnmoved steps.new.items → so_far.new.moves.items ≡ [])) }
 {
-    let alloc = so_far.alloc;
-    let done = do_step(alloc, step, before)?;
-    if !done.changes.is_empty() || !done.left.is_empty() {
-        let turn = Turn {
-            step,
-            is_done: true,
-        };
-        let value = told_value(alloc, turn, before, &done, &so_far.moves)?;
-        so_far.told.push(value)?;
-        so_far.moves.push(Moves::of(alloc, &done.changes)?)?;
-    }
+    let done = do_step(so_far.alloc, step, before)?;
+    let turn = Turn {
+        step,
+        is_done: true,
+    };
+    so_far.tell(turn, before, &done)?;
+    so_far.note_moves(&done.changes)?;
     steps.push(StepDone {
         step,
         changes: done.changes,
@@ -154,17 +189,26 @@ fn after_step(
     Ok(done.tree)
 }
 
-/// Tells what a step would do that is not chosen.
-fn tell_other(step: StepName, tree: &Value, so_far: &mut SoFar) -> Result<(), AllocError> {
-    let alloc = so_far.alloc;
-    let done = do_step(alloc, step, tree)?;
-    if !done.changes.is_empty() || !done.left.is_empty() {
-        let turn = Turn {
-            step,
-            is_done: false,
-        };
-        let value = told_value(alloc, turn, tree, &done, &so_far.moves)?;
-        so_far.told.push(value)?;
+/// Tells what a step would do that is not chosen, if that is asked for.
+fn tell_other(
+    step: StepName,
+    tree: &Value,
+    others: Others,
+    so_far: &mut SoFar,
+) -> Result<(), AllocError>
+    ensures told { OnOk result ((dones : List StepDone) → (IsUnmoved dones → so_far.old.moves.items ≡ [])
+        → IsOtherTold others step dones (view tree.now) (map view so_far.old.told.items) (map view so_far.new.told.items)) }
+    ensures moves { so_far.new.moves ≡ so_far.old.moves }
+{
+    match others {
+        Others::Untold => Ok(()),
+        Others::Told => {
+            let done = do_step(so_far.alloc, step, tree)?;
+            let turn = Turn {
+                step,
+                is_done: false,
+            };
+            so_far.tell(turn, tree, &done)
+        }
     }
-    Ok(())
 }

@@ -24,8 +24,12 @@ pub(crate) enum Piece {
     Party,
 }
 
-/// The objects whose codes are told apart, each family after those whose codes go in front of its own.
-pub(crate) const CODED: [Role; 6] = [
+/// The objects whose codes are told apart, each family after those whose codes go in front of its own. Nothing may go in front of
+/// the codes of units, parties and headers: those that have one code are left.
+pub(crate) const CODED: [Role; 9] = [
+    Role::OfFamily(Family::Unit),
+    Role::OfFamily(Family::Party),
+    Role::OfFamily(Family::Header),
     Role::Election,
     Role::OfFamily(Family::Office),
     Role::OfFamily(Family::Contest),
