@@ -1,5 +1,6 @@
 -- Steps by the words of a caller.
-use Rattle.std.proofs.Common.{Bor, ◌≡◌, ◌∙◌, ◌+◌, ◌<◌, ◌≤◌, ◌++◌, ◌==◌, ℕ, Bool, true, false, List, [], ◌∷◌, Option, Some, None, ap, drop, get_or, length, map, option_map, option_and_then, refl, sym, append_assoc}
+use Rattle.std.proofs.Common.{Bor, ◌≡◌, ◌∙◌, ◌+◌, ◌<◌, ◌≤◌, ◌++◌, ◌==◌, ℕ, Bool, true, false, List, [], ◌∷◌, Option, Some, None, ap, drop, get_or, length, map}
+use Rattle.std.proofs.Common.{option_map, option_and_then, refl, sym, append_assoc}
 use Rattle.std.proofs.lemmas.List.{append-nil, drop_all, drop_more, get_or-map, length-map}
 use Rattle.std.specs.List.{filter, find, slice_split}
 use Rattle.std.specs.Option.{MatchOption}
@@ -45,7 +46,8 @@ word_chooses : (steps more : List StepName) (words : List (List ℕ)) (i : ℕ) 
 word_chooses steps more words i d low chooses =
     ap (with_more steps) (drop_more words i d low) ∙ rw chooses (at (steps_by_words (drop (i + 1) words)))
   where
-    at : (o : Option (List StepName)) → option_map (λ rest. steps ++ rest) (option_map (λ rest. more ++ rest) o) ≡ option_map (λ rest. (steps ++ more) ++ rest) o
+    at : (o : Option (List StepName)) → option_map (λ rest. steps ++ rest) (option_map (λ rest. more ++ rest) o)
+        ≡ option_map (λ rest. (steps ++ more) ++ rest) o
     at None = refl
     at (Some rest) = ap Some (sym (append_assoc steps more rest))
 
@@ -57,7 +59,8 @@ word_is_unknown steps words i d low unknown = ap (with_more steps) (drop_more wo
 abbrev pub words_of : List (Bor (List ℕ)) → List (List ℕ)
 words_of items = map (λ word. word.now) items
 
-word_at : (items : List (Bor (List ℕ))) (i : ℕ) (d : Bor (List ℕ)) → i < length items → (i < length (words_of items)) × (get_or (words_of items) i [] ≡ (get_or items i d).now)
+word_at : (items : List (Bor (List ℕ))) (i : ℕ) (d : Bor (List ℕ)) → i < length items → (i < length (words_of items))
+    × (get_or (words_of items) i [] ≡ (get_or items i d).now)
 word_at items i d low = (rw (length-map items (λ (word : Bor (List ℕ)). word.now)) low, get_or-map (λ (word : Bor (List ℕ)). word.now) items i d [] low)
 
 pub words_end : (items : List (Bor (List ℕ))) (i : ℕ) → length items ≤ i → length (words_of items) ≤ i
@@ -72,7 +75,8 @@ pub word_adds : (items : List (Bor (List ℕ))) (i : ℕ) (d : Bor (List ℕ)) (
     → with_more steps (drop i (words_of items)) ≡ with_more news (drop (i + 1) (words_of items))
 word_adds items i d is_known steps news low known adds = at (steps_by_word (get_or items i d).now) refl adds
   where
-    at : (o : Option (List StepName)) → steps_by_word (get_or items i d).now ≡ o → MatchOption o (is_known ≡ false) (λ more. (is_known ≡ true) × (news ≡ steps ++ more))
+    at : (o : Option (List StepName)) → steps_by_word (get_or items i d).now ≡ o → MatchOption o (is_known ≡ false)
+        (λ more. (is_known ≡ true) × (news ≡ steps ++ more))
         → with_more steps (drop i (words_of items)) ≡ with_more news (drop (i + 1) (words_of items))
     at None is e = cc
     at (Some more) is (t, e) =
@@ -84,11 +88,13 @@ pub word_ends : (items : List (Bor (List ℕ))) (i : ℕ) (d : Bor (List ℕ)) (
     → with_more steps (drop i (words_of items)) ≡ None
 word_ends items i d is_known steps news low unknown adds = at (steps_by_word (get_or items i d).now) refl adds
   where
-    at : (o : Option (List StepName)) → steps_by_word (get_or items i d).now ≡ o → MatchOption o (is_known ≡ false) (λ more. (is_known ≡ true) × (news ≡ steps ++ more))
+    at : (o : Option (List StepName)) → steps_by_word (get_or items i d).now ≡ o → MatchOption o (is_known ≡ false)
+        (λ more. (is_known ≡ true) × (news ≡ steps ++ more))
         → with_more steps (drop i (words_of items)) ≡ None
     at None is e = let w = word_at items i d low in word_is_unknown steps (words_of items) i [] w.0 (ap steps_by_word w.1 ∙ is)
     at (Some more) is (t, e) = cc
 
-pub group_adds : (word : List ℕ) (g : StepGroup) (steps news : List StepName) → None ≡ step_named word → Some g ≡ group_named word → news ≡ steps ++ steps_of_group g
+pub group_adds : (word : List ℕ) (g : StepGroup) (steps news : List StepName) → None ≡ step_named word → Some g ≡ group_named word
+    → news ≡ steps ++ steps_of_group g
     → IsWordAdded word true steps news
 group_adds word g steps news no_step is e = rw (sym no_step, sym is) (refl, e)

@@ -23,12 +23,14 @@ no_own_rule s own t rule same none =
 
 -- by the rule that it has
 pub by_own_rule : (s own : StepName) (t : Data) (r : Result Done AllocError) (rule : Rule) → s ≡ own → rule_of own t ≡ Some rule
-    → IfOk r (λ done. view done.tree ≡ prepared rule [] (Some (Object role.Report)) t) → IfOk r (λ done. told_by done.changes.items ≡ told rule [] (Some (Object role.Report)) t)
+    → IfOk r (λ done. view done.tree ≡ prepared rule [] (Some (Object role.Report)) t)
+    → IfOk r (λ done. told_by done.changes.items ≡ told rule [] (Some (Object role.Report)) t)
     → IfOk r (IsNamedStepDone s t)
 by_own_rule s own t (Ok done) rule same its tree changes = record { rule = rule; own = own_rule s own t rule same its; tree = tree; changes = changes }
 by_own_rule s own t (Err e) rule same its tree changes = tt
 
 -- by some rule, where it has none
-pub by_some_rule : (s own : StepName) (t : Data) (r : Result Done AllocError) → s ≡ own → rule_of own t ≡ None → IfOk r (IsStepDone t) → IfOk r (IsNamedStepDone s t)
+pub by_some_rule : (s own : StepName) (t : Data) (r : Result Done AllocError) → s ≡ own → rule_of own t ≡ None → IfOk r (IsStepDone t)
+    → IfOk r (IsNamedStepDone s t)
 by_some_rule s own t (Ok done) same none h = record { rule = h.rule; own = no_own_rule s own t h.rule same none; tree = h.tree; changes = h.changes }
 by_some_rule s own t (Err e) same none h = tt

@@ -18,22 +18,26 @@ use Rattle.erd_prepare.specs.declared.step_done.Others.{Others}
 use Rattle.erd_prepare.specs.declared.step_done.StepDone.{StepDone}
 use Rattle.erd_prepare.specs.declared.step_name.StepName.{StepName}
 
-pub no_step_yet : (others : Others) (chosen : List StepName) (given : Data) (dones : List StepDone) (tree : Data) (tolds : List Data) → dones ≡ [] → tree ≡ given → tolds ≡ []
+pub no_step_yet : (others : Others) (chosen : List StepName) (given : Data) (dones : List StepDone) (tree : Data) (tolds : List Data) → dones ≡ []
+    → tree ≡ given → tolds ≡ []
     → AreStepsDone others chosen given [] dones tree tolds
 no_step_yet others chosen given dones tree tolds none same no_told =
     subst (λ (ds : List StepDone). AreStepsDone others chosen given [] ds tree tolds) (sym none)
     (subst (λ (d : Data). AreStepsDone others chosen given [] [] d tolds) (sym same)
     (subst (λ (ts : List Data). AreStepsDone others chosen given [] [] given ts) (sym no_told) no_step))
 
-pub one_more_step : (others : Others) (chosen : List StepName) (given : Data) (names : List StepName) (i : ℕ) (d : StepName) (olds news : List StepDone) (before after : Data)
+pub one_more_step : (others : Others) (chosen : List StepName) (given : Data) (names : List StepName) (i : ℕ) (d : StepName)
+    (olds news : List StepDone) (before after : Data)
     (tolds tolds_after : List Data) → i < length names → Contains chosen (get_or names i d) → AreStepsDone others chosen given (take i names) olds before tolds
     → IsStepAdded (get_or names i d) before olds news after tolds tolds_after → AreStepsDone others chosen given (take (i + 1) names) news after tolds_after
 one_more_step others chosen given names i d olds news before after tolds tolds_after low is_chosen h k =
     subst (λ (ns : List StepName). AreStepsDone others chosen given ns news after tolds_after) (sym (take_more names i d low))
     (one_more (take i names) (get_or names i d) olds news before after tolds tolds_after is_chosen h k)
 
-pub step_left_out : (others : Others) (chosen : List StepName) (given : Data) (names : List StepName) (i : ℕ) (d : StepName) (dones : List StepDone) (tree : Data)
-    (tolds tolds_after : List Data) → i < length names → ¬ (Contains chosen (get_or names i d)) → AreStepsDone others chosen given (take i names) dones tree tolds
+pub step_left_out : (others : Others) (chosen : List StepName) (given : Data) (names : List StepName) (i : ℕ) (d : StepName)
+    (dones : List StepDone) (tree : Data)
+    (tolds tolds_after : List Data) → i < length names → ¬ (Contains chosen (get_or names i d)) → AreStepsDone others chosen given
+    (take i names) dones tree tolds
     → IsOtherTold others (get_or names i d) dones tree tolds tolds_after → AreStepsDone others chosen given (take (i + 1) names) dones tree tolds_after
 step_left_out others chosen given names i d dones tree tolds tolds_after low is_not h k =
     subst (λ (ns : List StepName). AreStepsDone others chosen given ns dones tree tolds_after) (sym (take_more names i d low))
@@ -71,7 +75,8 @@ module _ (P Q : Type 0) (only : Q → P) where
   added_where name is_done changes left olds news (inr (some, (d, told, is))) = inr (some, (d, step_where name is_done changes left d told, is))
 
 -- with one more step that changed nothing
-pub unmoved_so_far : (olds : List StepDone) (one : StepDone) (news : List StepDone) → news ≡ olds ++ one ∷ [] → IsUnmoved news → IsUnmoved olds × (one.changes.items ≡ [])
+pub unmoved_so_far : (olds : List StepDone) (one : StepDone) (news : List StepDone) → news ≡ olds ++ one ∷ [] → IsUnmoved news → IsUnmoved olds
+    × (one.changes.items ≡ [])
 unmoved_so_far olds one news is h =
     let test = λ (done : StepDone). length done.changes.items == 0 in
     let parts = and_parts (list_all test olds) (list_all test (one ∷ [])) (sym (list_all-append test olds (one ∷ [])) ∙ ap (list_all test) (sym is) ∙ h) in

@@ -1,5 +1,6 @@
 -- Members built from the first to the last: each goes behind those before it.
-use Rattle.std.proofs.Common.{◌≡◌, ℕ, Bool, true, false, if◌then◌else◌, List, [], ◌∷◌, ◌++◌, refl, sym, ap, ◌∙◌, subst, String, Global, string_bytes, string_cmp, nat_cmp, Less, Greater}
+use Rattle.std.proofs.Common.{◌≡◌, ℕ, Bool, true, false, if◌then◌else◌, List, [], ◌∷◌, ◌++◌, refl, sym, ap, ◌∙◌, subst, String, Global, string_bytes}
+use Rattle.std.proofs.Common.{string_cmp, nat_cmp, Less, Greater}
 use Rattle.std.proofs.lemmas.Cmp.{nat_list_cmp_total}
 use Rattle.std.specs.Cmp.Lexicographic.{slice_cmp}
 use Rattle.std.specs.List.{AllByRecursion}
@@ -77,7 +78,8 @@ pub record Built (r : Rule) (p : List Step) (s : Scope) (done left all : Members
   pub is : join done (prepared_members r p s left) ≡ prepared_members r p s all
 
 step : (r : Rule) (p : List Step) (s : Scope) (k : List ℕ) (d : Data) (done left all : Members) (b : Bool) → Rising (join done (member k d left))
-    → join done (if b then prepared_members r p s left else member k (prepared r (p ++ Name k ∷ []) (want_of_name s k) d) (prepared_members r p s left)) ≡ prepared_members r p s all
+    → join done (if b then prepared_members r p s left else member k (prepared r (p ++ Name k ∷ []) (want_of_name s k) d) (prepared_members r p s left))
+    ≡ prepared_members r p s all
     → Built r p s (if b then done else put k (prepared r (p ++ Name k ∷ []) (want_of_name s k) d) done) left all
 step r p s k d done left all true rising is = record { rising = rising_without done k d left rising; is = is }
 step r p s k d done left all false rising is =
@@ -91,7 +93,8 @@ step r p s k d done left all false rising is =
 -- one member more
 pub built_more : (r : Rule) (p : List Step) (s : Scope) (k : List ℕ) (d : Data) (done now left all : Members) → Built r p s done (member k d left) all
     → now ≡ (if r.drops (p ++ Name k ∷ []) s k d then done else put k (prepared r (p ++ Name k ∷ []) (want_of_name s k) d) done) → Built r p s now left all
-built_more r p s k d done now left all b e = subst (λ ms. Built r p s ms left all) (sym e) (step r p s k d done left all (r.drops (p ++ Name k ∷ []) s k d) b.rising b.is)
+built_more r p s k d done now left all b e = subst (λ ms. Built r p s ms left all) (sym e)
+    (step r p s k d done left all (r.drops (p ++ Name k ∷ []) s k d) b.rising b.is)
 
 pub items_again : (ds : Items) → items_of (list_of_items ds) ≡ ds
 items_again no_items = refl

@@ -1,9 +1,11 @@
 -- Steps over the bytes of a file.
-use Rattle.std.proofs.Common.{◌≡◌, ◌≢◌, ◌∙◌, ◌+◌, ◌-◌, ◌<◌, ◌≤◌, ◌==◌, ◌++◌, ℕ, zero, suc, Bool, true, false, List, [], ◌∷◌, ap, arith, cond, drop, get_or, inl, inr, length, refl, subst, sym, take, append_assoc, length-drop}
+use Rattle.std.proofs.Common.{◌≡◌, ◌≢◌, ◌∙◌, ◌+◌, ◌-◌, ◌<◌, ◌≤◌, ◌==◌, ◌++◌, ℕ, zero, suc, Bool, true, false, List, [], ◌∷◌, ap, arith, cond, drop, get_or, inl}
+use Rattle.std.proofs.Common.{inr, length, refl, subst, sym, take, append_assoc, length-drop}
 use Rattle.std.proofs.Math.Seq.{drop-nil}
 use Rattle.std.proofs.lemmas.List.{append-nil, drop-drop, drop_more, drop_all}
 use Rattle.json.specs.Ascii as ascii
-use Rattle.erd_prepare.specs.Numbers.{AreTold, NumberAt, begins_number, changed, is_in_number, none, number_here, numbers_from, numbers_in, piece_length, string_length, unchanged, IsUnchanged, IsNumberTold}
+use Rattle.erd_prepare.specs.Numbers.{AreTold, NumberAt, begins_number, changed, is_in_number, none, number_here, numbers_from, numbers_in, piece_length}
+use Rattle.erd_prepare.specs.Numbers.{string_length, unchanged, IsUnchanged, IsNumberTold}
 use Rattle.erd_prepare.specs.code.Scanning.{IsAdded, IsLineAt, IsNumberAdded, IsToldUpTo}
 use Rattle.erd_prepare.specs.declared.changed_number.ChangedNumber.{ChangedNumber}
 use Rattle.erd_prepare.specs.declared.numbers.Line.{Line}
@@ -22,7 +24,8 @@ pub ends : (xs : List ℕ) (i d : ℕ) → i < length xs → get_or xs i d ≡ 3
 unfolding string_length
 ends xs i d low is = ap (string_length false) (drop_more xs i d low) ∙ rw is refl
 
-pub goes_on : (xs : List ℕ) (i d : ℕ) → i < length xs → (get_or xs i d == 34) ≡ false → string_length false (drop i xs) ≡ suc (string_length (get_or xs i d == 92) (drop (i + 1) xs))
+pub goes_on : (xs : List ℕ) (i d : ℕ) → i < length xs → (get_or xs i d == 34) ≡ false → string_length false (drop i xs)
+    ≡ suc (string_length (get_or xs i d == 92) (drop (i + 1) xs))
 unfolding string_length
 goes_on xs i d low is_not = ap (string_length false) (drop_more xs i d low) ∙ rw is_not refl
 
@@ -64,14 +67,17 @@ front_other i b bs begins long = piece i (b ∷ bs) (omega arith) long ∙ rw be
 pub number_at : (file : List ℕ) (i e : ℕ) → i < length file → e ≡ i + piece_length (drop i file) → i < e → begins_number (get_or file i 0) ≡ true
     → numbers_from i 0 (drop i file) ≡ (record { before = i; token = take (e - i) (drop i file) }) ∷ numbers_from e 0 (drop e file)
 number_at file i e low is more begins =
-    let h : AreNumbersBehind i (drop i file) = subst (AreNumbersBehind i) (sym (drop_more file i 0 low)) (front_number i (get_or file i 0) (drop (i + 1) file) begins) in
+    let h : AreNumbersBehind i (drop i file) = subst (AreNumbersBehind i) (sym (drop_more file i 0 low))
+    (front_number i (get_or file i 0) (drop (i + 1) file) begins) in
     let n : piece_length (drop i file) ≡ e - i = omega arith in
-    h (omega arith) ∙ rw (n, drop-drop (e - i) i file) (ap (λ j. (record { before = i; token = take (e - i) (drop i file) }) ∷ numbers_from j 0 (drop j file)) (omega arith))
+    h (omega arith) ∙ rw (n, drop-drop (e - i) i file)
+    (ap (λ j. (record { before = i; token = take (e - i) (drop i file) }) ∷ numbers_from j 0 (drop j file)) (omega arith))
 
 pub other_at : (file : List ℕ) (i e : ℕ) → i < length file → e ≡ i + piece_length (drop i file) → i < e → begins_number (get_or file i 0) ≡ false
     → numbers_from i 0 (drop i file) ≡ numbers_from e 0 (drop e file)
 other_at file i e low is more begins =
-    let h : 0 < piece_length (drop i file) → numbers_from i 0 (drop i file) ≡ numbers_from (i + piece_length (drop i file)) 0 (drop (piece_length (drop i file)) (drop i file)) =
+    let h : 0 < piece_length (drop i file) → numbers_from i 0 (drop i file) ≡ numbers_from (i + piece_length (drop i file)) 0
+    (drop (piece_length (drop i file)) (drop i file)) =
     subst (λ xs. 0 < piece_length xs → numbers_from i 0 xs ≡ numbers_from (i + piece_length xs) 0 (drop (piece_length xs) xs)) (sym (drop_more file i 0 low))
     (front_other i (get_or file i 0) (drop (i + 1) file) begins) in
     let n : piece_length (drop i file) ≡ e - i = omega arith in
@@ -87,7 +93,8 @@ unfolding numbers_from
 all_told file i told high h =
     subst (AreTold file (numbers_in file)) (append-nil told) (h.all [] (subst (λ xs. AreTold file (numbers_from i 0 xs) []) (sym (drop_all i file high)) none))
 
-pub other_told : (file : List ℕ) (i e : ℕ) (told : List ChangedNumber) → i < length file → e ≡ i + piece_length (drop i file) → i < e → begins_number (get_or file i 0) ≡ false
+pub other_told : (file : List ℕ) (i e : ℕ) (told : List ChangedNumber) → i < length file → e ≡ i + piece_length (drop i file) → i < e
+    → begins_number (get_or file i 0) ≡ false
     → IsToldUpTo file i told → IsToldUpTo file e told
 other_told file i e told low is more begins h =
     record { all = λ rest k. h.all rest (subst (λ its. AreTold file its rest) (sym (other_at file i e low is more begins)) k) }
@@ -109,7 +116,8 @@ number_told file i e line olds news low is more begins at h (inr new) =
       all = λ rest k.
           let told : IsNumberTold file (number_between file i e) new.one =
           record { line = new.line_told ∙ at.number; column = new.column_told ∙ column _ at.start; before = new.before; changed = new.changed } in
-          rw (new.added, append_assoc olds (new.one ∷ []) rest) (h.all (new.one ∷ rest) (subst (λ its. AreTold file its (new.one ∷ rest)) (sym (number_at file i e low is more begins))
+          rw (new.added, append_assoc olds (new.one ∷ []) rest)
+          (h.all (new.one ∷ rest) (subst (λ its. AreTold file its (new.one ∷ rest)) (sym (number_at file i e low is more begins))
           (changed (number_between file i e) (numbers_from e 0 (drop e file)) new.one rest told k)));
     }
   where

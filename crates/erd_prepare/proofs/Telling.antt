@@ -41,7 +41,8 @@ all_are_told Is xs i ds high h = record {
   ends = inl refl;
 }
 
-pub enough_are_told : {A : Type 0} (Is : A → Data → Type 0) (xs : List A) (i : ℕ) (ds : List Data) → AreEnough ds → AreEach Is (take i xs) ds → AreFirst Is xs ds
+pub enough_are_told : {A : Type 0} (Is : A → Data → Type 0) (xs : List A) (i : ℕ) (ds : List Data) → AreEnough ds
+    → AreEach Is (take i xs) ds → AreFirst Is xs ds
 enough_are_told Is xs i ds enough h = record {
   shown = take i xs;
   rest = drop i xs;

@@ -1,5 +1,7 @@
 -- Nothing changes but what is told.
-use Rattle.std.proofs.Common.{arith, ◌≡◌, ℕ, zero, suc, ◌+◌, ◌==◌, Bool, true, false, not, ◌&&◌, ◌||◌, if◌then◌else◌, List, [], ◌∷◌, ◌++◌, Option, Some, None, option_and_then, unwrap_or, Ordering, Less, Equal, Greater, nat_cmp, is_some, refl, sym, ap, ap₂, ◌∙◌, subst, append_assoc, append-nil, bytes_eq, rules}
+use Rattle.std.proofs.Common.{arith, ◌≡◌, ℕ, zero, suc, ◌+◌, ◌==◌, Bool, true, false, not, ◌&&◌, ◌||◌, if◌then◌else◌, List, [], ◌∷◌, ◌++◌, Option, Some, None}
+use Rattle.std.proofs.Common.{option_and_then, unwrap_or, Ordering, Less, Equal, Greater, nat_cmp, is_some, refl, sym, ap, ap₂, ◌∙◌, subst, append_assoc}
+use Rattle.std.proofs.Common.{append-nil, bytes_eq, rules}
 use Rattle.std.proofs.lemmas.List.Folds.{list_all-append}
 use Rattle.std.specs.Cmp.Lexicographic.{slice_cmp}
 use Rattle.std.specs.Ordering.{match_ordering}
@@ -15,7 +17,8 @@ use Rattle.erd_check.proofs.Exact.{text_exact, text_itself}
 use Rattle.erd_check.proofs.Steps.{text_from_equal}
 use Rattle.erd_prepare.specs.Nulls.{nulls}
 use Rattle.erd_prepare.specs.Places.{are_apart, entries_kept, entry_number, is_same_step, is_untold, member_named, place_after, value_at}
-use Rattle.erd_prepare.specs.Rules.{Rule, Told, entry_in, list_of_one, prepared, prepared_items, prepared_members, prepared_object, put_all, scope_in, told, told_change, told_items, told_members, told_object, told_puts, told_shape}
+use Rattle.erd_prepare.specs.Rules.{Rule, Told, entry_in, list_of_one, prepared, prepared_items, prepared_members, prepared_object, put_all, scope_in, told}
+use Rattle.erd_prepare.specs.Rules.{told_change, told_items, told_members, told_object, told_puts, told_shape}
 
 -- ---- places
 
@@ -55,7 +58,8 @@ module _ (r : Rule) (z : List Step) where
   shape_kept p x d (Some v) inner rest e u h = told_there (are_apart p z) _ (ap (λ y. are_apart y z) e ∙ inside_touches z x) u
 
   wrap_kept : (p x : List Step) (d : Data) (b : Bool) (first inner : List Told) (list rest : Data) → p ≡ z ++ x
-      → is_untold z (if b then told_change p d (Some (list_of_one d)) ∷ first else inner) ≡ true → (is_untold z inner ≡ true → rest ≡ d) → (if b then list else rest) ≡ d
+      → is_untold z (if b then told_change p d (Some (list_of_one d)) ∷ first else inner) ≡ true → (is_untold z inner ≡ true → rest ≡ d)
+      → (if b then list else rest) ≡ d
   wrap_kept p x d true first inner list rest e u h = told_there (are_apart p z) _ (ap (λ y. are_apart y z) e ∙ inside_touches z x) u
   wrap_kept p x d false first inner list rest e u h = h u
 
@@ -66,12 +70,14 @@ module _ (r : Rule) (z : List Step) where
       (ap (λ y. are_apart (y ++ Name m.0 ∷ []) z) e ∙ ap (λ y. are_apart y z) (append_assoc z x (Name m.0 ∷ [])) ∙ inside_touches z (x ++ Name m.0 ∷ [])) u
 
   item_kept : (p x : List Step) (b : Bool) (d : Data) (inner : List Told) (rest : Items) (e : Data) (ds : Items) → p ≡ z ++ x
-      → is_untold z (if b then told_change p d None ∷ [] else inner) ≡ true → (is_untold z inner ≡ true → e ≡ d) → rest ≡ ds → (if b then rest else item e rest) ≡ item d ds
+      → is_untold z (if b then told_change p d None ∷ [] else inner) ≡ true → (is_untold z inner ≡ true → e ≡ d) → rest ≡ ds
+      → (if b then rest else item e rest) ≡ item d ds
   item_kept p x true d inner rest v ds e u here later = told_there (are_apart p z) _ (ap (λ y. are_apart y z) e ∙ inside_touches z x) u
   item_kept p x false d inner rest v ds e u here later = ap₂ item (here u) later
 
   member_kept : (p x : List Step) (b : Bool) (d : Data) (inner : List Told) (k : List ℕ) (rest : Members) (e : Data) (ms : Members) → p ≡ z ++ x
-      → is_untold z (if b then told_change p d None ∷ [] else inner) ≡ true → (is_untold z inner ≡ true → e ≡ d) → rest ≡ ms → (if b then rest else member k e rest) ≡ member k d ms
+      → is_untold z (if b then told_change p d None ∷ [] else inner) ≡ true → (is_untold z inner ≡ true → e ≡ d) → rest ≡ ms
+      → (if b then rest else member k e rest) ≡ member k d ms
   member_kept p x true d inner k rest v ms e u here later = told_there (are_apart p z) _ (ap (λ y. are_apart y z) e ∙ inside_touches z x) u
   member_kept p x false d inner k rest v ms e u here later = ap₂ (member k) (here u) later
 
@@ -93,19 +99,23 @@ module _ (r : Rule) (z : List Step) where
     kept p x e w (number n) u = shape_kept p x (number n) (r.shapes p w (number n)) [] (number n) e u (λ h. refl)
     kept p x e w (string s) u = shape_kept p x (string s) (r.shapes p w (string s)) [] (string s) e u (λ h. refl)
     kept p x e w (array ds) u =
-        shape_kept p x (array ds) (r.shapes p w (array ds)) (told_items r p w 0 ds) (array (prepared_items r p w 0 ds)) e u (λ h. ap array (kept_items p x e w 0 ds h))
+        shape_kept p x (array ds) (r.shapes p w (array ds)) (told_items r p w 0 ds) (array (prepared_items r p w 0 ds)) e u
+        (λ h. ap array (kept_items p x e w 0 ds h))
     kept p x e w (object ms) u =
         shape_kept p x (object ms) (r.shapes p w (object ms)) _ _ e u
-        (λ h. wrap_kept p x (object ms) (r.wraps p w (object ms)) (told_object r p (entry_in w) ms) (told_object r p w ms) (list_of_one (prepared_object r p (entry_in w) ms)) (prepared_object r p w ms) e h
+        (λ h. wrap_kept p x (object ms) (r.wraps p w (object ms)) (told_object r p (entry_in w) ms) (told_object r p w ms)
+        (list_of_one (prepared_object r p (entry_in w) ms)) (prepared_object r p w ms) e h
         (kept_object p x e w ms (λ k. kept_members p x e (r.scopes w (object ms)) ms k)))
 
-    kept_items : (p x : List Step) → p ≡ z ++ x → (w : Option Want) (i : ℕ) (ds : Items) → is_untold z (told_items r p w i ds) ≡ true → prepared_items r p w i ds ≡ ds
+    kept_items : (p x : List Step) → p ≡ z ++ x → (w : Option Want) (i : ℕ) (ds : Items) → is_untold z (told_items r p w i ds) ≡ true
+        → prepared_items r p w i ds ≡ ds
     kept_items p x e w i no_items u = refl
     kept_items p x e w i (item d ds) u =
         let at = p ++ At i ∷ [] in
         let f : at ≡ z ++ (x ++ At i ∷ []) = deeper p x (At i) e in
         let parts = both_untold z (if r.lets_go at w d then told_change at d None ∷ [] else told r at (entry_in w) d) (told_items r p w (i + 1) ds) u in
-        item_kept at (x ++ At i ∷ []) (r.lets_go at w d) d (told r at (entry_in w) d) (prepared_items r p w (i + 1) ds) (prepared r at (entry_in w) d) ds f parts.0
+        item_kept at (x ++ At i ∷ []) (r.lets_go at w d) d (told r at (entry_in w) d) (prepared_items r p w (i + 1) ds)
+        (prepared r at (entry_in w) d) ds f parts.0
         (kept at (x ++ At i ∷ []) f (entry_in w) d) (kept_items p x e w (i + 1) ds parts.1)
 
     kept_members : (p x : List Step) → p ≡ z ++ x → (s : Scope) (ms : Members) → is_untold z (told_members r p s ms) ≡ true → prepared_members r p s ms ≡ ms
@@ -114,7 +124,8 @@ module _ (r : Rule) (z : List Step) where
         let at = p ++ Name k ∷ [] in
         let f : at ≡ z ++ (x ++ Name k ∷ []) = deeper p x (Name k) e in
         let parts = both_untold z (if r.drops at s k d then told_change at d None ∷ [] else told r at (want_of_name s k) d) (told_members r p s ms) u in
-        member_kept at (x ++ Name k ∷ []) (r.drops at s k d) d (told r at (want_of_name s k) d) k (prepared_members r p s ms) (prepared r at (want_of_name s k) d) ms f parts.0
+        member_kept at (x ++ Name k ∷ []) (r.drops at s k d) d (told r at (want_of_name s k) d) k (prepared_members r p s ms)
+        (prepared r at (want_of_name s k) d) ms f parts.0
         (kept at (x ++ Name k ∷ []) f (want_of_name s k) d) (kept_members p x e s ms parts.1)
 
 pub unchanged : (r : Rule) (p : List Step) (w : Option Want) (d : Data) → told r p w d ≡ [] → prepared r p w d ≡ d
@@ -139,7 +150,8 @@ wrap_stays p q at d false first inner list rest u h = h u
 other_than_equal : (k l m : List ℕ) → l ≡ m → bytes_eq k l ≡ false → bytes_eq k m ≡ false
 other_than_equal k l m e f = sym (ap (bytes_eq k) e) ∙ f
 
-put_at : (k l m : List ℕ) (x d : Data) (ms : Members) (o : Ordering) → slice_cmp nat_cmp l m ≡ o → bytes_eq k l ≡ false → member_named (put l x ms) k ≡ member_named ms k
+put_at : (k l m : List ℕ) (x d : Data) (ms : Members) (o : Ordering) → slice_cmp nat_cmp l m ≡ o → bytes_eq k l ≡ false
+    → member_named (put l x ms) k ≡ member_named ms k
     → member_named (match_ordering o (member l x (member m d ms)) (member m x ms) (member m d (put l x ms))) k ≡ member_named (member m d ms) k
 put_at k l m x d ms Less is f later = ap (λ b. if b then Some x else member_named (member m d ms) k) f
 put_at k l m x d ms Equal is f later =
@@ -158,7 +170,8 @@ named_apart k l p q b u = at (bytes_eq k l) refl
     at false is = is
     at true is =
         let same : k ≡ l = text_exact k l is in
-        told_there (are_apart (p ++ Name l ∷ []) (p ++ Name k ∷ q)) b (along p (Name l ∷ []) (Name k ∷ q) ∙ ap (λ n. not (bytes_eq l n) || false) same ∙ ap (λ c. not c || false) (text_itself l)) u
+        told_there (are_apart (p ++ Name l ∷ []) (p ++ Name k ∷ q)) b
+        (along p (Name l ∷ []) (Name k ∷ q) ∙ ap (λ n. not (bytes_eq l n) || false) same ∙ ap (λ c. not c || false) (text_itself l)) u
 
 puts_apart : (k : List ℕ) (p q : List Step) (d : Data) (ps : List (List ℕ × Data)) (ms : Members) → is_untold (p ++ Name k ∷ q) (told_puts p d ps) ≡ true
     → member_named (put_all ps ms) k ≡ member_named ms k
@@ -167,7 +180,8 @@ puts_apart k p q d (m ∷ ps) ms u =
     puts_apart k p q d ps (put m.0 m.1 ms) (and_parts (are_apart (p ++ Name m.0 ∷ []) (p ++ Name k ∷ q)) (is_untold (p ++ Name k ∷ q) (told_puts p d ps)) u).1
     ∙ other_put k m.0 m.1 ms (named_apart k m.0 p q (is_untold (p ++ Name k ∷ q) (told_puts p d ps)) u)
 
-passed_member : (b : Bool) (k l : List ℕ) (e : Data) (rest : Members) → bytes_eq k l ≡ false → member_named (if b then rest else member l e rest) k ≡ member_named rest k
+passed_member : (b : Bool) (k l : List ℕ) (e : Data) (rest : Members) → bytes_eq k l ≡ false → member_named (if b then rest else member l e rest)
+    k ≡ member_named rest k
 passed_member true k l e rest f = refl
 passed_member false k l e rest f = ap (λ b. if b then Some e else member_named rest k) f
 
@@ -176,7 +190,8 @@ found_member : (b : Bool) (k l : List ℕ) (p q : List Step) (d e : Data) (inner
     → (is_untold (p ++ Name k ∷ q) inner ≡ true → value_at at e ≡ value_at q d)
     → option_and_then (value_at at) (member_named (if b then rest else member l e rest) k) ≡ value_at q d
 found_member true k l p q d e inner rest at same u h =
-    told_there (are_apart (p ++ Name l ∷ []) (p ++ Name k ∷ q)) true (along p (Name l ∷ []) (Name k ∷ q) ∙ ap (λ n. not (bytes_eq l n) || false) same ∙ ap (λ c. not c || false) (text_itself l)) u
+    told_there (are_apart (p ++ Name l ∷ []) (p ++ Name k ∷ q)) true
+    (along p (Name l ∷ []) (Name k ∷ q) ∙ ap (λ n. not (bytes_eq l n) || false) same ∙ ap (λ c. not c || false) (text_itself l)) u
 found_member false k l p q d e inner rest at same u h =
     ap (λ b. option_and_then (value_at at) (if b then Some e else member_named rest k)) (ap (λ n. bytes_eq n l) same ∙ text_itself l) ∙ h u
 
@@ -189,15 +204,18 @@ found_item : (b : Bool) (n j : ℕ) (p q : List Step) (d e : Data) (inner : List
     → (is_untold (p ++ At n ∷ q) inner ≡ true → value_at at e ≡ value_at q d)
     → option_and_then (value_at at) (entry_number (if b then rest else item e rest) 0) ≡ value_at q d
 found_item true n j p q d e inner rest at same u h =
-    told_there (are_apart (p ++ At j ∷ []) (p ++ At n ∷ q)) true (along p (At j ∷ []) (At n ∷ q) ∙ ap (λ m. not (j == m) || false) same ∙ ap (λ c. not c || false) (same_number j)) u
+    told_there (are_apart (p ++ At j ∷ []) (p ++ At n ∷ q)) true
+    (along p (At j ∷ []) (At n ∷ q) ∙ ap (λ m. not (j == m) || false) same ∙ ap (λ c. not c || false) (same_number j)) u
 found_item false n j p q d e inner rest at same u h = h u
 
 module _ (r : Rule) where
   object_stays : (p : List Step) (w : Option Want) (ms : Members) (s : Step) (q : List Step)
       → ((k : List ℕ) → is_untold (p ++ Name k ∷ q) (told_members r p (r.scopes w (object ms)) ms) ≡ true
-      → option_and_then (value_at (place_after r (p ++ Name k ∷ []) (want_of_name (r.scopes w (object ms)) k) (member_named ms k) q)) (member_named (prepared_members r p (r.scopes w (object ms)) ms) k)
+      → option_and_then (value_at (place_after r (p ++ Name k ∷ []) (want_of_name (r.scopes w (object ms)) k) (member_named ms k) q))
+      (member_named (prepared_members r p (r.scopes w (object ms)) ms) k)
       ≡ option_and_then (value_at q) (member_named ms k))
-      → is_untold (p ++ s ∷ q) (told_object r p w ms) ≡ true → value_at (place_after r p w (Some (object ms)) (s ∷ q)) (prepared_object r p w ms) ≡ value_at (s ∷ q) (object ms)
+      → is_untold (p ++ s ∷ q) (told_object r p w ms) ≡ true → value_at (place_after r p w (Some (object ms)) (s ∷ q)) (prepared_object r p w ms)
+      ≡ value_at (s ∷ q) (object ms)
   object_stays p w ms (At i) q later u = refl
   object_stays p w ms (Name k) q later u =
       let s = r.scopes w (object ms) in
@@ -206,11 +224,14 @@ module _ (r : Rule) where
       ap (option_and_then (value_at at)) (puts_apart k p q (object ms) (r.puts p w (object ms)) (prepared_members r p s ms) parts.1) ∙ later k parts.0
 
   member_stays : (p : List Step) (s : Scope) (l : List ℕ) (d : Data) (ms : Members) (k : List ℕ) (q : List Step) (b : Bool) → bytes_eq k l ≡ b
-      → is_untold (p ++ Name k ∷ q) (if r.drops (p ++ Name l ∷ []) s l d then told_change (p ++ Name l ∷ []) d None ∷ [] else told r (p ++ Name l ∷ []) (want_of_name s l) d) ≡ true
-      → option_and_then (value_at (place_after r (p ++ Name k ∷ []) (want_of_name s k) (member_named ms k) q)) (member_named (prepared_members r p s ms) k) ≡ option_and_then (value_at q) (member_named ms k)
+      → is_untold (p ++ Name k ∷ q) (if r.drops (p ++ Name l ∷ []) s l d then told_change (p ++ Name l ∷ []) d None ∷ [] else told r (p ++ Name l ∷ [])
+      (want_of_name s l) d) ≡ true
+      → option_and_then (value_at (place_after r (p ++ Name k ∷ []) (want_of_name s k) (member_named ms k) q)) (member_named (prepared_members r p s ms) k)
+      ≡ option_and_then (value_at q) (member_named ms k)
       → (is_untold ((p ++ Name l ∷ []) ++ q) (told r (p ++ Name l ∷ []) (want_of_name s l) d) ≡ true
       → value_at (place_after r (p ++ Name l ∷ []) (want_of_name s l) (Some d) q) (prepared r (p ++ Name l ∷ []) (want_of_name s l) d) ≡ value_at q d)
-      → option_and_then (value_at (place_after r (p ++ Name k ∷ []) (want_of_name s k) (if b then Some d else member_named ms k) q)) (member_named (prepared_members r p s (member l d ms)) k)
+      → option_and_then (value_at (place_after r (p ++ Name k ∷ []) (want_of_name s k) (if b then Some d else member_named ms k) q))
+      (member_named (prepared_members r p s (member l d ms)) k)
       ≡ option_and_then (value_at q) (if b then Some d else member_named ms k)
   member_stays p s l d ms k q false is u later here =
       ap (option_and_then (value_at (place_after r (p ++ Name k ∷ []) (want_of_name s k) (member_named ms k) q)))
@@ -218,51 +239,70 @@ module _ (r : Rule) where
       ∙ later
   member_stays p s l d ms k q true is u later here =
       let same : k ≡ l = text_exact k l is in
-      found_member (r.drops (p ++ Name l ∷ []) s l d) k l p q d (prepared r (p ++ Name l ∷ []) (want_of_name s l) d) (told r (p ++ Name l ∷ []) (want_of_name s l) d) (prepared_members r p s ms)
+      found_member (r.drops (p ++ Name l ∷ []) s l d) k l p q d (prepared r (p ++ Name l ∷ []) (want_of_name s l) d)
+      (told r (p ++ Name l ∷ []) (want_of_name s l) d) (prepared_members r p s ms)
       (place_after r (p ++ Name k ∷ []) (want_of_name s k) (Some d) q) same u
-      (λ h. subst (λ n. value_at (place_after r (p ++ Name n ∷ []) (want_of_name s n) (Some d) q) (prepared r (p ++ Name l ∷ []) (want_of_name s l) d) ≡ value_at q d) (sym same)
-      (here (subst (λ z. is_untold z (told r (p ++ Name l ∷ []) (want_of_name s l) d) ≡ true) (ap (λ n. p ++ Name n ∷ q) same ∙ sym (append_assoc p (Name l ∷ []) q)) h)))
+      (λ h. subst (λ n. value_at (place_after r (p ++ Name n ∷ []) (want_of_name s n) (Some d) q) (prepared r (p ++ Name l ∷ []) (want_of_name s l) d)
+      ≡ value_at q d) (sym same)
+      (here (subst (λ z. is_untold z (told r (p ++ Name l ∷ []) (want_of_name s l) d) ≡ true)
+      (ap (λ n. p ++ Name n ∷ q) same ∙ sym (append_assoc p (Name l ∷ []) q)) h)))
 
   mutual
-    pub stays : (p : List Step) (w : Option Want) (d : Data) (q : List Step) → is_untold (p ++ q) (told r p w d) ≡ true → value_at (place_after r p w (Some d) q) (prepared r p w d) ≡ value_at q d
+    pub stays : (p : List Step) (w : Option Want) (d : Data) (q : List Step) → is_untold (p ++ q) (told r p w d) ≡ true
+        → value_at (place_after r p w (Some d) q) (prepared r p w d) ≡ value_at q d
     stays p w d [] u = ap Some (kept r p p [] (sym (append-nil p)) w d (subst (λ z. is_untold z (told r p w d) ≡ true) (append-nil p) u))
     stays p w null (s ∷ q) u = shape_stays p (s ∷ q) (place_after r p w (Some null) (s ∷ q)) null (r.shapes p w null) [] null u (λ h. refl)
-    stays p w (boolean b) (s ∷ q) u = shape_stays p (s ∷ q) (place_after r p w (Some (boolean b)) (s ∷ q)) (boolean b) (r.shapes p w (boolean b)) [] (boolean b) u (λ h. refl)
-    stays p w (number n) (s ∷ q) u = shape_stays p (s ∷ q) (place_after r p w (Some (number n)) (s ∷ q)) (number n) (r.shapes p w (number n)) [] (number n) u (λ h. refl)
-    stays p w (string t) (s ∷ q) u = shape_stays p (s ∷ q) (place_after r p w (Some (string t)) (s ∷ q)) (string t) (r.shapes p w (string t)) [] (string t) u (λ h. refl)
+    stays p w (boolean b) (s ∷ q) u = shape_stays p (s ∷ q) (place_after r p w (Some (boolean b)) (s ∷ q)) (boolean b) (r.shapes p w (boolean b)) []
+        (boolean b) u (λ h. refl)
+    stays p w (number n) (s ∷ q) u = shape_stays p (s ∷ q) (place_after r p w (Some (number n)) (s ∷ q)) (number n) (r.shapes p w (number n)) []
+        (number n) u (λ h. refl)
+    stays p w (string t) (s ∷ q) u = shape_stays p (s ∷ q) (place_after r p w (Some (string t)) (s ∷ q)) (string t) (r.shapes p w (string t)) []
+        (string t) u (λ h. refl)
     stays p w (array ds) (Name k ∷ q) u =
-        shape_stays p (Name k ∷ q) (place_after r p w (Some (array ds)) (Name k ∷ q)) (array ds) (r.shapes p w (array ds)) (told_items r p w 0 ds) (array (prepared_items r p w 0 ds)) u (λ h. refl)
+        shape_stays p (Name k ∷ q) (place_after r p w (Some (array ds)) (Name k ∷ q)) (array ds) (r.shapes p w (array ds)) (told_items r p w 0 ds)
+        (array (prepared_items r p w 0 ds)) u (λ h. refl)
     stays p w (array ds) (At i ∷ q) u =
-        shape_stays p (At i ∷ q) (place_after r p w (Some (array ds)) (At i ∷ q)) (array ds) (r.shapes p w (array ds)) (told_items r p w 0 ds) (array (prepared_items r p w 0 ds)) u
+        shape_stays p (At i ∷ q) (place_after r p w (Some (array ds)) (At i ∷ q)) (array ds) (r.shapes p w (array ds)) (told_items r p w 0 ds)
+        (array (prepared_items r p w 0 ds)) u
         (λ h. items_stay p w 0 ds i i q (omega arith) h)
     stays p w (object ms) (s ∷ q) u =
         shape_stays p (s ∷ q) (place_after r p w (Some (object ms)) (s ∷ q)) (object ms) (r.shapes p w (object ms)) _ _ u
-        (λ h. wrap_stays p (s ∷ q) (place_after r p w (Some (object ms)) (s ∷ q)) (object ms) (r.wraps p w (object ms)) (told_object r p (entry_in w) ms) (told_object r p w ms)
-        (list_of_one (prepared_object r p (entry_in w) ms)) (prepared_object r p w ms) h (object_stays p w ms s q (λ k v. members_stay p (r.scopes w (object ms)) ms k q v)))
+        (λ h. wrap_stays p (s ∷ q) (place_after r p w (Some (object ms)) (s ∷ q)) (object ms) (r.wraps p w (object ms))
+        (told_object r p (entry_in w) ms) (told_object r p w ms)
+        (list_of_one (prepared_object r p (entry_in w) ms)) (prepared_object r p w ms) h
+        (object_stays p w ms s q (λ k v. members_stay p (r.scopes w (object ms)) ms k q v)))
 
-    items_stay : (p : List Step) (w : Option Want) (j : ℕ) (ds : Items) (i n : ℕ) (q : List Step) → n ≡ j + i → is_untold (p ++ At n ∷ q) (told_items r p w j ds) ≡ true
-        → option_and_then (value_at (place_after r (p ++ At n ∷ []) (entry_in w) (entry_number ds i) q)) (entry_number (prepared_items r p w j ds) (entries_kept r p w j ds i)) ≡ option_and_then (value_at q) (entry_number ds i)
+    items_stay : (p : List Step) (w : Option Want) (j : ℕ) (ds : Items) (i n : ℕ) (q : List Step) → n ≡ j + i
+        → is_untold (p ++ At n ∷ q) (told_items r p w j ds) ≡ true
+        → option_and_then (value_at (place_after r (p ++ At n ∷ []) (entry_in w) (entry_number ds i) q))
+        (entry_number (prepared_items r p w j ds) (entries_kept r p w j ds i)) ≡ option_and_then (value_at q) (entry_number ds i)
     items_stay p w j no_items i n q e u = refl
     items_stay p w j (item d ds) zero n q e u =
         let here : n ≡ j = omega (arith, e) in
         let at = p ++ At j ∷ [] in
-        let parts = both_untold (p ++ At n ∷ q) (if r.lets_go at w d then told_change at d None ∷ [] else told r at (entry_in w) d) (told_items r p w (j + 1) ds) u in
-        found_item (r.lets_go at w d) n j p q d (prepared r at (entry_in w) d) (told r at (entry_in w) d) (prepared_items r p w (j + 1) ds) (place_after r (p ++ At n ∷ []) (entry_in w) (Some d) q) here parts.0
+        let parts = both_untold (p ++ At n ∷ q) (if r.lets_go at w d then told_change at d None ∷ [] else told r at (entry_in w) d)
+        (told_items r p w (j + 1) ds) u in
+        found_item (r.lets_go at w d) n j p q d (prepared r at (entry_in w) d) (told r at (entry_in w) d) (prepared_items r p w (j + 1) ds)
+        (place_after r (p ++ At n ∷ []) (entry_in w) (Some d) q) here parts.0
         (λ h. subst (λ m. value_at (place_after r (p ++ At m ∷ []) (entry_in w) (Some d) q) (prepared r at (entry_in w) d) ≡ value_at q d) (sym here)
-        (stays at (entry_in w) d q (subst (λ z. is_untold z (told r at (entry_in w) d) ≡ true) (ap (λ m. p ++ At m ∷ q) here ∙ sym (append_assoc p (At j ∷ []) q)) h)))
+        (stays at (entry_in w) d q
+        (subst (λ z. is_untold z (told r at (entry_in w) d) ≡ true) (ap (λ m. p ++ At m ∷ q) here ∙ sym (append_assoc p (At j ∷ []) q)) h)))
     items_stay p w j (item d ds) (suc i) n q e u =
         let at = p ++ At j ∷ [] in
-        let parts = both_untold (p ++ At n ∷ q) (if r.lets_go at w d then told_change at d None ∷ [] else told r at (entry_in w) d) (told_items r p w (j + 1) ds) u in
+        let parts = both_untold (p ++ At n ∷ q) (if r.lets_go at w d then told_change at d None ∷ [] else told r at (entry_in w) d)
+        (told_items r p w (j + 1) ds) u in
         ap (option_and_then (value_at (place_after r (p ++ At n ∷ []) (entry_in w) (entry_number ds i) q)))
         (passed_item (r.lets_go at w d) (prepared r at (entry_in w) d) (prepared_items r p w (j + 1) ds) (entries_kept r p w (j + 1) ds i))
         ∙ items_stay p w (j + 1) ds i n q (omega (arith, e)) parts.1
 
     members_stay : (p : List Step) (s : Scope) (ms : Members) (k : List ℕ) (q : List Step) → is_untold (p ++ Name k ∷ q) (told_members r p s ms) ≡ true
-        → option_and_then (value_at (place_after r (p ++ Name k ∷ []) (want_of_name s k) (member_named ms k) q)) (member_named (prepared_members r p s ms) k) ≡ option_and_then (value_at q) (member_named ms k)
+        → option_and_then (value_at (place_after r (p ++ Name k ∷ []) (want_of_name s k) (member_named ms k) q)) (member_named (prepared_members r p s ms) k)
+        ≡ option_and_then (value_at q) (member_named ms k)
     members_stay p s no_members k q u = refl
     members_stay p s (member l d ms) k q u =
         let at = p ++ Name l ∷ [] in
-        let parts = both_untold (p ++ Name k ∷ q) (if r.drops at s l d then told_change at d None ∷ [] else told r at (want_of_name s l) d) (told_members r p s ms) u in
+        let parts = both_untold (p ++ Name k ∷ q) (if r.drops at s l d then told_change at d None ∷ [] else told r at (want_of_name s l) d)
+        (told_members r p s ms) u in
         member_stays p s l d ms k q (bytes_eq k l) refl parts.0 (members_stay p s ms k q parts.1) (stays at (want_of_name s l) d q)
 
 -- ---- nulls
@@ -285,7 +325,8 @@ unnulled false one inner e none = none
 null_gone : (p : List Step) (s v : Scope) (k : List ℕ) (d : Data) (ms : Members) (b : Bool) → is_some (as_null d) ≡ b
     → told nulls (p ++ Name k ∷ []) (want_of_name v k) (prepared nulls (p ++ Name k ∷ []) (want_of_name s k) d) ≡ []
     → told_members nulls p v (prepared_members nulls p s ms) ≡ []
-    → told_members nulls p v (if b then prepared_members nulls p s ms else member k (prepared nulls (p ++ Name k ∷ []) (want_of_name s k) d) (prepared_members nulls p s ms)) ≡ []
+    → told_members nulls p v (if b then prepared_members nulls p s ms else member k (prepared nulls (p ++ Name k ∷ []) (want_of_name s k) d)
+    (prepared_members nulls p s ms)) ≡ []
 null_gone p s v k d ms true is here later = later
 null_gone p s v k d ms false is here later =
     let e = prepared nulls (p ++ Name k ∷ []) (want_of_name s k) d in
@@ -307,7 +348,8 @@ mutual
   nulls_gone_items : (p : List Step) (v w : Option Want) (i : ℕ) (ds : Items) → told_items nulls p v i (prepared_items nulls p w i ds) ≡ []
   nulls_gone_items p v w i no_items = refl
   nulls_gone_items p v w i (item d ds) =
-      both_empty (told nulls (p ++ At i ∷ []) (entry_in v) (prepared nulls (p ++ At i ∷ []) (entry_in w) d)) (told_items nulls p v (i + 1) (prepared_items nulls p w (i + 1) ds))
+      both_empty (told nulls (p ++ At i ∷ []) (entry_in v) (prepared nulls (p ++ At i ∷ []) (entry_in w) d))
+      (told_items nulls p v (i + 1) (prepared_items nulls p w (i + 1) ds))
       (nulls_gone (p ++ At i ∷ []) (entry_in v) (entry_in w) d) (nulls_gone_items p v w (i + 1) ds)
 
   nulls_gone_members : (p : List Step) (s v : Scope) (ms : Members) → told_members nulls p v (prepared_members nulls p s ms) ≡ []

@@ -1,5 +1,6 @@
 -- Identifiers from names, for objects that have none.
-use Rattle.std.specs.Prelude.{ℕ, List, [], ◌∷◌, ◌++◌, Bool, true, false, ◌&&◌, ◌||◌, if◌then◌else◌, Option, Some, None, codes, is_some, option_and_then, option_map, unwrap_or, length, nat_lt}
+use Rattle.std.specs.Prelude.{ℕ, List, [], ◌∷◌, ◌++◌, Bool, true, false, ◌&&◌, ◌||◌, if◌then◌else◌, Option, Some, None, codes, is_some, option_and_then}
+use Rattle.std.specs.Prelude.{option_map, unwrap_or, length, nat_lt}
 use Rattle.std.specs.Option.{option_map_or}
 use Rattle.std.specs.Ordering.{is_lt, ordering_then}
 use Rattle.serde_json.specs.Data.{Data, string, array, object, no_items, item, no_members, member}
@@ -87,7 +88,8 @@ identifier_of_name (x ∷ text) = (codes "ExternalIdentifier", name_identifier (
 
 -- What is put into an object.
 abbrev pub named : Bool → Option Want → Data → List (List ℕ × Data)
-named several (Some (Object r)) d = if is_known_by several r && (is_some (class_of_object r d) && has_no_identifier d) then identifier_of_name (name_text r d) else []
+named several (Some (Object r)) d = if is_known_by several r && (is_some (class_of_object r d) && has_no_identifier d) then identifier_of_name
+    (name_text r d) else []
 named several w d = []
 
 -- The step, given whether there are several elections.

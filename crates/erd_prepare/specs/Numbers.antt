@@ -1,5 +1,6 @@
 -- The numbers of a JSON text that are written otherwise once they are read.
-use Rattle.std.specs.Prelude.{◌≡◌, ◌≢◌, ◌+◌, ◌-◌, ◌==◌, ◌||◌, ◌++◌, ℕ, zero, suc, List, [], ◌∷◌, Bool, true, false, not, if◌then◌else◌, Some, length, take, reverse, string_bytes}
+use Rattle.std.specs.Prelude.{◌≡◌, ◌≢◌, ◌+◌, ◌-◌, ◌==◌, ◌||◌, ◌++◌, ℕ, zero, suc, List, [], ◌∷◌, Bool, true, false, not, if◌then◌else◌, Some, length, take}
+use Rattle.std.specs.Prelude.{reverse, string_bytes}
 use Rattle.std.specs.List.{prefix_len, count_by}
 use Rattle.std.specs.Char.{is_ascii_digit}
 use Rattle.std.specs.Float.{binary64}
@@ -101,7 +102,8 @@ pub record IsNumberTold (file : List ℕ) (it : NumberAt) (told : ChangedNumber)
 pub data AreTold (file : List ℕ) : List NumberAt → List ChangedNumber → Type 0 where
   none : AreTold file [] []
   unchanged : (it : NumberAt) (its : List NumberAt) (told : List ChangedNumber) → IsUnchanged it.token → AreTold file its told → AreTold file (it ∷ its) told
-  changed : (it : NumberAt) (its : List NumberAt) (one : ChangedNumber) (told : List ChangedNumber) → IsNumberTold file it one → AreTold file its told → AreTold file (it ∷ its) (one ∷ told)
+  changed : (it : NumberAt) (its : List NumberAt) (one : ChangedNumber) (told : List ChangedNumber) → IsNumberTold file it one → AreTold file its told
+      → AreTold file (it ∷ its) (one ∷ told)
 
 -- The numbers of the file that change are told, and nothing else.
 abbrev pub AreChangedNumbers : List ℕ → List ChangedNumber → Type 0

@@ -1,5 +1,6 @@
 -- Persons to whom nothing refers, such as those who stood only in the administration of a unit.
-use Rattle.std.specs.Prelude.{◌≡◌, ℕ, List, [], ◌∷◌, ◌++◌, Bool, false, not, ◌||◌, ◌&&◌, if◌then◌else◌, Option, Some, None, codes, option_and_then, option_to_list, String}
+use Rattle.std.specs.Prelude.{◌≡◌, ℕ, List, [], ◌∷◌, ◌++◌, Bool, false, not, ◌||◌, ◌&&◌, if◌then◌else◌, Option, Some, None, codes, option_and_then}
+use Rattle.std.specs.Prelude.{option_to_list, String}
 use Rattle.std.specs.BTreeSet.{BTreeSet, contains_text}
 use Rattle.std.specs.List.{list_any}
 use Rattle.std.specs.Option.{option_map_or}
@@ -53,7 +54,8 @@ is_among ss id = list_any (λ s. bytes_eq s id) ss
 
 -- True for a person without an `@id` that is used. The list of persons stands in the report itself.
 abbrev pub is_unused_person : (List ℕ → Bool) → Option Want → Data → Bool
-is_unused_person is_used (Some (Member (kind.Keyed family.Person) required)) d = is_object d && not (option_map_or is_used (option_and_then as_str (get (codes "@id") d)) false)
+is_unused_person is_used (Some (Member (kind.Keyed family.Person) required)) d =
+    is_object d && not (option_map_or is_used (option_and_then as_str (get (codes "@id") d)) false)
 is_unused_person is_used w d = false
 
 -- The step, given which texts are used.

@@ -4,7 +4,8 @@ ghost use Rattle.serde_json.specs.View.{view};
 ghost use Rattle.erd_tables.specs.declared.class.Role.TheVariants.{Report};
 ghost use Rattle.erd_check.specs.declared.want.Want.TheVariants.{Object};
 ghost use Rattle.erd_prepare.specs.Changes.{told_by};
-ghost use Rattle.erd_prepare.specs.ClassNames.{class_named, class_names, class_put, class_told, content_class, only_class, only_of_family, role_of_entry, role_wanted, type_put};
+ghost use Rattle.erd_prepare.specs.ClassNames.{class_named, class_names, class_put, class_told, content_class, only_class, only_of_family, role_of_entry};
+ghost use Rattle.erd_prepare.specs.ClassNames.{role_wanted, type_put};
 ghost use Rattle.erd_prepare.specs.Rules.{prepared, seen, told};
 
 use crate::asked::scope_in;

@@ -9,7 +9,8 @@ ghost use Rattle.erd_check.specs.Paths.{steps_of};
 ghost use Rattle.erd_check.specs.Wants.{want_of_name};
 ghost use Rattle.erd_check.specs.declared.want.Want.TheVariants.{Object};
 ghost use Rattle.erd_prepare.specs.Changes.{told_by};
-ghost use Rattle.erd_prepare.specs.Rules.{entry_in, list_of_one, prepared, prepared_items, prepared_members, put_all, seen, told, told_change, told_items, told_members, told_puts};
+ghost use Rattle.erd_prepare.specs.Rules.{entry_in, list_of_one, prepared, prepared_items, prepared_members, put_all, seen, told, told_change, told_items};
+ghost use Rattle.erd_prepare.specs.Rules.{told_members, told_puts};
 
 use crate::asked::entry_in;
 use crate::change::Change;
@@ -70,7 +71,8 @@ fn value_after<M: Mender>(
     changes: &mut Vec<Change>,
 ) -> Result<Value, AllocError>
     ensures tree { IfOk result (λ v. view v ≡ prepared (M.rule mending.now.mender.now) (steps_of path.now) want (view value.now)) }
-    ensures changes { IfOk result (λ _. told_by changes.new.items ≡ told_by changes.old.items ++ told (M.rule mending.now.mender.now) (steps_of path.now) want (view value.now)) }
+    ensures changes { IfOk result (λ _. told_by changes.new.items ≡ told_by changes.old.items ++ told (M.rule mending.now.mender.now) (steps_of path.now)
+        want (view value.now)) }
 {
     if let Some(other) = mending.mender.shape(mending.alloc, path, want, value)? {
         let after = Some(other.clone()?);
@@ -109,7 +111,8 @@ fn push_list(
     path: &Path,
     changes: &mut Vec<Change>,
 ) -> Result<(), AllocError>
-    ensures { IfOk result (λ _. told_by changes.new.items ≡ told_by changes.old.items ++ told_change (steps_of path.now) (view value.now) (Some (list_of_one (view value.now))) ∷ []) }
+    ensures { IfOk result (λ _. told_by changes.new.items ≡ told_by changes.old.items ++ told_change (steps_of path.now) (view value.now)
+        (Some (list_of_one (view value.now))) ∷ []) }
 {
     let after = list_of_one(alloc, value.clone()?)?;
     push_change(alloc, path, Some(value.clone()?), Some(after), changes)
@@ -136,7 +139,8 @@ fn object_with<M: Mender>(
     ensures tree { IfOk result (λ v. view v
         ≡ object (put_all ((M.rule mending.now.mender.now).puts (steps_of path.now) want (view value.now)) (members_view kept.entries))) }
     ensures changes { IfOk result (λ _. told_by changes.new.items
-        ≡ told_by changes.old.items ++ told_puts (steps_of path.now) (view value.now) ((M.rule mending.now.mender.now).puts (steps_of path.now) want (view value.now))) }
+        ≡ told_by changes.old.items ++ told_puts (steps_of path.now) (view value.now)
+        ((M.rule mending.now.mender.now).puts (steps_of path.now) want (view value.now))) }
 {
     let mut all = kept;
     let puts = mending.mender.puts(mending.alloc, path, want, value)?;
@@ -152,7 +156,8 @@ fn items_after<M: Mender>(
     path: &Path,
     changes: &mut Vec<Change>,
 ) -> Result<Vec<Value>, AllocError>
-    ensures tree { IfOk result (λ v. items_view v.items ≡ prepared_items (M.rule mending.now.mender.now) (steps_of path.now) want 0 (items_view items.now.items)) }
+    ensures tree { IfOk result (λ v. items_view v.items ≡ prepared_items (M.rule mending.now.mender.now) (steps_of path.now) want 0
+        (items_view items.now.items)) }
     ensures changes { IfOk result (λ _. told_by changes.new.items
         ≡ told_by changes.old.items ++ told_items (M.rule mending.now.mender.now) (steps_of path.now) want 0 (items_view items.now.items)) }
 {
@@ -198,7 +203,8 @@ fn members_after<M: Mender>(
     path: &Path,
     changes: &mut Vec<Change>,
 ) -> Result<Map<String, Value>, AllocError>
-    ensures tree { IfOk result (λ m. members_view m.entries ≡ prepared_members (M.rule mending.now.mender.now) (steps_of path.now) scope (members_view members.now.entries)) }
+    ensures tree { IfOk result (λ m. members_view m.entries ≡ prepared_members (M.rule mending.now.mender.now) (steps_of path.now) scope
+        (members_view members.now.entries)) }
     ensures changes { IfOk result (λ _. told_by changes.new.items
         ≡ told_by changes.old.items ++ told_members (M.rule mending.now.mender.now) (steps_of path.now) scope (members_view members.now.entries)) }
 {
@@ -231,14 +237,18 @@ fn add_member<M: Mender>(
     changes: &mut Vec<Change>,
 ) -> Result<(), AllocError>
     ensures tree { IfOk result (λ _. members_view kept.new.entries
-        ≡ (if (M.rule mending.now.mender.now).drops (steps_of place.now.path.now ++ Name (string_bytes name.now) ∷ []) place.now.scope (string_bytes name.now) (view member.now) then members_view kept.old.entries
+        ≡ (if (M.rule mending.now.mender.now).drops (steps_of place.now.path.now ++ Name (string_bytes name.now) ∷ []) place.now.scope (string_bytes name.now)
+        (view member.now) then members_view kept.old.entries
         else put (string_bytes name.now)
-        (prepared (M.rule mending.now.mender.now) (steps_of place.now.path.now ++ Name (string_bytes name.now) ∷ []) (want_of_name place.now.scope (string_bytes name.now)) (view member.now))
+        (prepared (M.rule mending.now.mender.now) (steps_of place.now.path.now ++ Name (string_bytes name.now) ∷ [])
+        (want_of_name place.now.scope (string_bytes name.now)) (view member.now))
         (members_view kept.old.entries))) }
     ensures changes { IfOk result (λ _. told_by changes.new.items ≡ told_by changes.old.items
-        ++ (if (M.rule mending.now.mender.now).drops (steps_of place.now.path.now ++ Name (string_bytes name.now) ∷ []) place.now.scope (string_bytes name.now) (view member.now)
+        ++ (if (M.rule mending.now.mender.now).drops (steps_of place.now.path.now ++ Name (string_bytes name.now) ∷ [])
+        place.now.scope (string_bytes name.now) (view member.now)
         then told_change (steps_of place.now.path.now ++ Name (string_bytes name.now) ∷ []) (view member.now) None ∷ []
-        else told (M.rule mending.now.mender.now) (steps_of place.now.path.now ++ Name (string_bytes name.now) ∷ []) (want_of_name place.now.scope (string_bytes name.now)) (view member.now))) }
+        else told (M.rule mending.now.mender.now) (steps_of place.now.path.now ++ Name (string_bytes name.now) ∷ [])
+        (want_of_name place.now.scope (string_bytes name.now)) (view member.now))) }
 {
     let text = name.as_str();
     let at = Path::Member(&*place.path, text);
@@ -273,7 +283,8 @@ fn put_in(
     changes: &mut Vec<Change>,
 ) -> Result<(), AllocError>
     ensures tree { IfOk result (λ _. members_view kept.new.entries ≡ put_all (seen puts.items) (members_view kept.old.entries)) }
-    ensures changes { IfOk result (λ _. told_by changes.new.items ≡ told_by changes.old.items ++ told_puts (steps_of path.now) (view object.now) (seen puts.items)) }
+    ensures changes { IfOk result (λ _. told_by changes.new.items ≡ told_by changes.old.items ++ told_puts (steps_of path.now)
+        (view object.now) (seen puts.items)) }
 {
     for (name, value) in puts {
         push_put(alloc, object, name.as_str(), &value, path, changes)?;

@@ -3,7 +3,8 @@ ghost use Rattle.std.specs.Prelude.{◌≡◌};
 ghost use Rattle.std.specs.Float.{float_to_signed};
 ghost use Rattle.std.specs.Int.{w64};
 ghost use Rattle.serde_json.specs.View.{view, items_view};
-ghost use Rattle.erd_prepare.specs.Local.{holds_fraction, is_carried_want, is_degree_name, is_fraction, is_no_whole, is_geographic, items_hold_fraction, may_be_geographic};
+ghost use Rattle.erd_prepare.specs.Local.{holds_fraction, is_carried_want, is_degree_name, is_fraction, is_no_whole, is_geographic, items_hold_fraction};
+ghost use Rattle.erd_prepare.specs.Local.{may_be_geographic};
 
 use erd_check::want::Want;
 use serde_json::Value;

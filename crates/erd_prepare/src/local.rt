@@ -7,7 +7,9 @@ ghost use Rattle.erd_prepare.specs.LocalSteps.{dropped_by};
 ghost use Rattle.serde_json.specs.View.{view, items_view, members_view};
 ghost use Rattle.erd_tables.specs.declared.class.Role.TheVariants.{Report};
 ghost use Rattle.erd_check.specs.declared.want.Want.TheVariants.{Object};
-ghost use Rattle.erd_prepare.specs.Local.{counts_nothing, dropping, is_coordinate, is_count_name, is_empty_label, is_empty_list, is_zero, is_zero_count, items_count_nothing, may_lack, member_counts_nothing, members_count_nothing, is_label, is_off_ballot, is_off_ballot_name, is_outside_member, is_required_in, is_stray_id, is_stray_identity};
+ghost use Rattle.erd_prepare.specs.Local.{counts_nothing, dropping, is_coordinate, is_count_name, is_empty_label, is_empty_list, is_zero, is_zero_count};
+ghost use Rattle.erd_prepare.specs.Local.{items_count_nothing, may_lack, member_counts_nothing, members_count_nothing, is_label, is_off_ballot};
+ghost use Rattle.erd_prepare.specs.Local.{is_off_ballot_name, is_outside_member, is_required_in, is_stray_id, is_stray_identity};
 ghost use Rattle.erd_prepare.specs.Changes.{told_by};
 ghost use Rattle.erd_prepare.specs.Rules.{prepared, told};
 

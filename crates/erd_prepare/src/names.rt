@@ -3,7 +3,8 @@ ghost use Rattle.std.specs.Prelude.{◌≡◌, [], ◌++◌, ◌∷◌, List, �
 ghost use Rattle.serde_json.specs.View.{view, items_view, members_view};
 ghost use Rattle.erd_tables.specs.declared.class.Role.TheVariants.{Report};
 ghost use Rattle.erd_check.specs.declared.want.Want.TheVariants.{Object};
-ghost use Rattle.erd_prepare.specs.Names.{has_no_identifier, identifier_of_name, is_known_by, is_nothing, joined, label_at, least_from, lesser, name_identifier, name_text, named, naming, naming_if, pair_of, text_of_label};
+ghost use Rattle.erd_prepare.specs.Names.{has_no_identifier, identifier_of_name, is_known_by, is_nothing, joined, label_at, least_from, lesser};
+ghost use Rattle.erd_prepare.specs.Names.{name_identifier, name_text, named, naming, naming_if, pair_of, text_of_label};
 ghost use Rattle.erd_prepare.specs.Changes.{told_by};
 ghost use Rattle.erd_prepare.specs.Rules.{prepared, seen, told};
 
@@ -244,7 +245,8 @@ fn lesser<'a>(
     best: Option<(&'a str, &'a str)>,
     next: Option<(&'a str, &'a str)>,
 ) -> Option<(&'a str, &'a str)>
-    ensures { option_map (λ p. (p.0.now, p.1.now)) result ≡ lesser (option_map (λ p. (p.0.now, p.1.now)) best.entry) (option_map (λ p. (p.0.now, p.1.now)) next.entry) }
+    ensures { option_map (λ p. (p.0.now, p.1.now)) result ≡ lesser (option_map (λ p. (p.0.now, p.1.now)) best.entry)
+        (option_map (λ p. (p.0.now, p.1.now)) next.entry) }
 {
     let Some(old) = best else {
         return next;

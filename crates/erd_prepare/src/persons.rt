@@ -6,7 +6,8 @@ ghost use Rattle.serde_json.specs.View.{view, items_view, members_view};
 ghost use Rattle.erd_tables.specs.Table.{is_reference_name};
 ghost use Rattle.erd_tables.specs.declared.class.Role.TheVariants.{Report};
 ghost use Rattle.erd_check.specs.declared.want.Want.TheVariants.{Object};
-ghost use Rattle.erd_prepare.specs.Persons.{Adds, is_among, persons_unless, references, references_of_items, references_of_members, texts_in, texts_of, unused_persons};
+ghost use Rattle.erd_prepare.specs.Persons.{Adds, is_among, persons_unless, references, references_of_items, references_of_members, texts_in, texts_of};
+ghost use Rattle.erd_prepare.specs.Persons.{unused_persons};
 ghost use Rattle.erd_prepare.specs.Changes.{told_by};
 ghost use Rattle.erd_prepare.specs.Rules.{prepared, told};
 

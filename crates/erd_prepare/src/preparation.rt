@@ -92,7 +92,8 @@ pub fn do_steps(
     chosen: &[StepName],
     others: Others,
 ) -> Result<Prepared, AllocError>
-    ensures done { IfOk result (λ prepared. AreStepsDone others chosen.now (view report.now) STEPS prepared.steps.items (view prepared.tree) (map view prepared.told.items)) }
+    ensures done { IfOk result (λ prepared. AreStepsDone others chosen.now (view report.now) STEPS prepared.steps.items (view prepared.tree)
+        (map view prepared.told.items)) }
 {
     let mut tree = report.clone()?;
     let mut steps = Vec::new(alloc);

@@ -1,6 +1,7 @@
 //! What the steps do to what a voter sees, and steps by the words of a caller.
 ghost use Rattle.std.specs.Prelude.{◌≡◌, ◌++◌, IfOk, MatchOption, OnOk, false, map, option_map, true};
-ghost use Rattle.erd_prepare.specs.StepWords.{group_named, group_of, name_of_group, is_same_group, steps_by_word, steps_chosen, steps_of_group, words_at_commas};
+ghost use Rattle.erd_prepare.specs.StepWords.{group_named, group_of, name_of_group, is_same_group, steps_by_word, steps_chosen, steps_of_group};
+ghost use Rattle.erd_prepare.specs.StepWords.{words_at_commas};
 
 use crate::step_name::{STEPS, StepName};
 use std::alloc::{AllocError, Global};

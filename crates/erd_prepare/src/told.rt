@@ -3,7 +3,8 @@ ghost use Rattle.std.specs.Prelude.{◌≡◌, ◌++◌, ◌∷◌, [], map, IfO
 ghost use Rattle.serde_json.specs.View.{view};
 ghost use Rattle.erd_prepare.specs.Changes.{told_of};
 ghost use Rattle.erd_prepare.specs.StepWords.{name_of_step};
-ghost use Rattle.erd_prepare.specs.Tellings.{AreEnough, AreFirst, AreNumbersTold, HaveBytes, IsChangeTold, IsLeftTold, IsNumberShown, IsStepTold, change_data, left_data, number_data, told_place_data, told_step_data, step_object};
+ghost use Rattle.erd_prepare.specs.Tellings.{AreEnough, AreFirst, AreNumbersTold, HaveBytes, IsChangeTold, IsLeftTold, IsNumberShown, IsStepTold, change_data};
+ghost use Rattle.erd_prepare.specs.Tellings.{left_data, number_data, told_place_data, told_step_data, step_object};
 
 use crate::change::Change;
 use crate::changed_number::ChangedNumber;
@@ -56,7 +57,8 @@ impl Told {
 
     fn add(&mut self, entry: Value) -> Result<(), AllocError>
         ensures added { OnOk result (self.new.entries.items ≡ self.old.entries.items ++ entry ∷ []) }
-        ensures measured { OnOk result (HaveBytes (map view self.old.entries.items) self.old.bytes → HaveBytes (map view self.new.entries.items) self.new.bytes) }
+        ensures measured { OnOk result (HaveBytes (map view self.old.entries.items) self.old.bytes
+            → HaveBytes (map view self.new.entries.items) self.new.bytes) }
     {
         let text = entry.to_vec(self.alloc)?;
         self.bytes = self.bytes.saturating_add(text.len());
@@ -79,7 +81,8 @@ pub(crate) fn told_value(
     done: &Done,
     moves: &Vec<Moves>,
 ) -> Result<Value, AllocError>
-    ensures { IfOk result (λ value. IsStepTold (name_of_step turn.step) turn.is_done (moves.now.items ≡ []) done.now.changes.items done.now.left.items (view value)) }
+    ensures { IfOk result (λ value. IsStepTold (name_of_step turn.step) turn.is_done (moves.now.items ≡ []) done.now.changes.items
+        done.now.left.items (view value)) }
 {
     let changes = told_changes(alloc, &done.changes, moves)?;
     let left = told_left(alloc, &done.left, before, moves)?;

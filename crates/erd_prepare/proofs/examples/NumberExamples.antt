@@ -71,7 +71,14 @@ plain = record { well_formed = well_formed; whole = lit< tt; no_leading_zero = �
 
 laid_out : IsLaidOut 16 4 parts
 unfolding parts
-laid_out = record { few_digits = λ no high. omega arith; few_zeros = λ no zero. (let absurd : ⊥ = omega arith in elim absurd [ ]); trimmed = λ some. inr (lit< tt); one_digit = λ some. elim some [ ]; far = λ some. elim some [ ] }
+laid_out =
+    record {
+      few_digits = λ no high. omega arith;
+      few_zeros = λ no zero. (let absurd : ⊥ = omega arith in elim absurd [ ]);
+      trimmed = λ some. inr (lit< tt);
+      one_digit = λ some. elim some [ ];
+      far = λ some. elim some [ ];
+    }
 
 changes : IsChanged (codes "1.50") (codes "1.5")
 unfolding serde_json_on_literals parts

@@ -9,4 +9,5 @@ use Rattle.erd_prepare.proofs.engine.put_in.Given as goal
 abbrev pub invariant-loop-name : goal.invariant-loop-name
 invariant-loop-name l =
     (put_all (seen (into_iter_items l.name-iterator)) (members_view l.kept.entries) ≡ put_all (seen l.fn.puts.items) (members_view l.initial.kept.entries))
-    × (told_by l.changes.items ++ told_puts (steps_of l.path) (view l.object) (seen (into_iter_items l.name-iterator)) ≡ told_by l.initial.changes.items ++ told_puts (steps_of l.path) (view l.object) (seen l.fn.puts.items))
+    × (told_by l.changes.items ++ told_puts (steps_of l.path) (view l.object) (seen (into_iter_items l.name-iterator)) ≡ told_by l.initial.changes.items
+    ++ told_puts (steps_of l.path) (view l.object) (seen l.fn.puts.items))

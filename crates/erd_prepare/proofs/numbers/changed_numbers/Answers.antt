@@ -10,7 +10,8 @@ loop-at-preserved c = (
   elim c.if-begins_number.branch [
     | then-begins_number+in_ok-tell_number w ↦
         rw w.told-is
-        (number_told c.args.file.now c.loop-at.at c.piece_end-end.result c.loop-at.line _ _ c.loop-at-test.true c.piece_end-end.ensures.end c.piece_end-end.ensures.forward
+        (number_told c.args.file.now c.loop-at.at c.piece_end-end.result c.loop-at.line _ _ c.loop-at-test.true c.piece_end-end.ensures.end
+        c.piece_end-end.ensures.forward
         (sym c.begins_number.ensures ∙ w.if-begins_number.true) c.loop-at.invariant.1 c.loop-at.invariant.2 w.in_ok-tell_number.ensures)
     | else-begins_number w ↦
         rw w.told-is

@@ -9,5 +9,6 @@ returns c only = (
       c.in_ok-push.ensures.items c.in_ok-tell.ensures.told (ap (λ v. map view v.items) c.in_ok-note_moves.ensures.told),
   λ later.
       let before = unmoved_so_far c.args.steps.now.items _ c.push.new.self.items c.in_ok-push.ensures.items later in
-      kept_twice c.args.so_far.now.moves c.tell.new.self.moves c.note_moves.new.self.moves (c.in_ok-note_moves.ensures.moves before.1) c.in_ok-tell.ensures.moves (only before.0),
+      kept_twice c.args.so_far.now.moves c.tell.new.self.moves c.note_moves.new.self.moves (c.in_ok-note_moves.ensures.moves before.1)
+      c.in_ok-tell.ensures.moves (only before.0),
 )

@@ -9,7 +9,8 @@ use Rattle.erd_prepare.proofs.preparation.do_steps.Goals as goal
 
 pub loop-step-init : goal.loop-step-init
 loop-step-init c = (
-  no_step_yet c.args.others c.args.chosen.now (view c.args.report.now) _ _ _ c.new-steps.ensures.items c.in_ok-tree.ensures.cases (ap (map view) c.new-2.ensures.items),
+  no_step_yet c.args.others c.args.chosen.now (view c.args.report.now) _ _ _ c.new-steps.ensures.items c.in_ok-tree.ensures.cases
+      (ap (map view) c.new-2.ensures.items),
   λ none. c.new.ensures.items,
 )
 

@@ -9,11 +9,15 @@ loop-word-init c =
 
 pub loop-word-preserved : goal.loop-word-preserved
 loop-word-preserved c =
-    sym (word_adds c.deref-word-items.result.now c.loop-word.word-index _ _ _ _ c.loop-word-test.true c.if-not-branch.false c.in_ok-add_word.ensures) ∙ c.loop-word.invariant
+    sym (word_adds c.deref-word-items.result.now c.loop-word.word-index _ _ _ _ c.loop-word-test.true c.if-not-branch.false c.in_ok-add_word.ensures)
+    ∙ c.loop-word.invariant
 
 pub returns-then-not-branch : goal.returns-then-not-branch
 returns-then-not-branch c =
-    sym (word_ends c.deref-word-items.result.now c.loop-word.word-index _ _ _ _ c.loop-word-test.true c.if-not-branch.true c.in_ok-add_word.ensures) ∙ c.loop-word.invariant
+    sym (word_ends c.deref-word-items.result.now c.loop-word.word-index _ _ _ _ c.loop-word-test.true c.if-not-branch.true c.in_ok-add_word.ensures)
+    ∙ c.loop-word.invariant
 
 pub returns : goal.returns
-returns c = sym (all_chosen c.loop-word.steps.items (words_of c.deref-word-items.result.now) c.loop-word.word-index (words_end c.deref-word-items.result.now c.loop-word.word-index c.loop-word-test.false)) ∙ c.loop-word.invariant
+returns c =
+    sym (all_chosen c.loop-word.steps.items (words_of c.deref-word-items.result.now) c.loop-word.word-index
+    (words_end c.deref-word-items.result.now c.loop-word.word-index c.loop-word-test.false)) ∙ c.loop-word.invariant

@@ -5,4 +5,5 @@ use Rattle.erd_prepare.proofs.told.told_changes.Given as goal
 
 abbrev pub invariant-loop-change : goal.invariant-loop-change
 invariant-loop-change l =
-    AreEach (IsChangeTold (l.moves.items ≡ [])) (take l.change-index l.changes.items) (map view l.told.entries.items) × HaveBytes (map view l.told.entries.items) l.told.bytes
+    AreEach (IsChangeTold (l.moves.items ≡ [])) (take l.change-index l.changes.items) (map view l.told.entries.items)
+    × HaveBytes (map view l.told.entries.items) l.told.bytes

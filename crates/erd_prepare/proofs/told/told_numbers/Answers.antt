@@ -11,11 +11,13 @@ loop-number-init c =
 
 pub returns-then-is_full : goal.returns-then-is_full
 returns-then-is_full c =
-    enough_are_told IsNumberShown c.args.numbers.now.items c.loop-number.number-index _ (c.is_full.ensures c.loop-number.invariant.1 c.if-is_full.true) c.loop-number.invariant.0
+    enough_are_told IsNumberShown c.args.numbers.now.items c.loop-number.number-index _ (c.is_full.ensures c.loop-number.invariant.1 c.if-is_full.true)
+    c.loop-number.invariant.0
 
 pub loop-number-preserved : goal.loop-number-preserved
 loop-number-preserved c = (
-  each_more IsNumberShown c.args.numbers.now.items c.deref-number-items.result.now c.loop-number.number-index c.number-item.result _ _ _ c.deref-number-items.ensures.value
+  each_more IsNumberShown c.args.numbers.now.items c.deref-number-items.result.now c.loop-number.number-index c.number-item.result _ _ _
+      c.deref-number-items.ensures.value
       c.loop-number-test.true c.number-item.is c.in_ok-add.ensures.added c.in_ok-number_value.ensures c.loop-number.invariant.0,
   c.in_ok-add.ensures.measured c.loop-number.invariant.1,
 )

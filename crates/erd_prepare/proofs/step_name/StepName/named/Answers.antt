@@ -8,4 +8,5 @@ use Rattle.erd_prepare.proofs.step_name.StepName.named.Goals as goal
 
 pub loop-step-preserved : goal.loop-step-preserved
 loop-step-preserved c =
-    sym (find_more (λ s. bytes_eq (name_of_step s) c.args.name.now) STEPS c.loop-step.step-index ClassNames c.loop-step-test.true (sym c.has_name.ensures ∙ c.if-has_name.false)) ∙ c.loop-step.invariant
+    sym (find_more (λ s. bytes_eq (name_of_step s) c.args.name.now) STEPS c.loop-step.step-index ClassNames c.loop-step-test.true
+    (sym c.has_name.ensures ∙ c.if-has_name.false)) ∙ c.loop-step.invariant
