@@ -311,6 +311,9 @@ equal('prepared: what other steps would do', others.steps.map((step) => `${step.
 const aLongList = new Preparation(encoder.encode(`{${REPORT},"a":[${Array(1500).fill('{"x":null}')}]}`), erd).prepare(['nulls']).steps;
 equal('prepared: a long list', aLongList.map(({ made, count, more }) => `${made.length} ${count} ${more}`).join(), '1000 1500 true');
 equal('prepared: what to do about a fault that is left', JSON.stringify([11, 16].map((reason) => remedyOf(reason).steps)), '[["repeated"],[]]');
+const ofPage = JSON.parse(readFileSync(new URL('../../web/texts.en.json', import.meta.url)));
+equal('prepared: the words of the page', JSON.stringify(STEPS.map(({ title, does, loses }) => [title, does, loses])),
+    JSON.stringify(STEPS.map(({ name }) => ['', '.does', '.loses'].map((part) => ofPage[`step.${name}${part}`]))));
 equal('prepared: the steps', STEPS.every(({ group, title, does, loses }) => [group, title, does, loses].every((text) => text.length > 5)), true);
 throws('prepared: no JSON', Error, () => new Preparation(encoder.encode('{'), erd).prepare([]));
 throws('prepared: a name that no step has', RangeError, () => new Preparation(encoder.encode('{}'), erd).prepare(['nosuch']));

@@ -1,6 +1,6 @@
 """Tries the steps that prepare an export, by the package for Python. One line a case that fails, and at the end the counts.
 
-- The package has the words of docs/FIXES.md.
+- The package has the words of docs/FIXES.md, and of the page.
 - Each step alone mends a report that lacks only it, to one that means what mended.py says by hand; the same report rearranged is mended to
   one that means the same.
 - Each raw example is accepted after the steps, and so is each rearrangement, which then means the same.
@@ -76,6 +76,9 @@ def words():
     page = (ROOT / 'docs' / 'FIXES.md').read_text(encoding='utf-8')
     rows = re.findall(r'^\| `([a-z-]+)` \| (removed|filled-in|visible) \| (.*) \| [^|]* \|$', page, re.M)
     yield 'the steps of docs/FIXES.md', [(step.name, step.group, step.does) for step in STEPS], rows
+    texts = json.loads((ROOT / 'web' / 'texts.en.json').read_text(encoding='utf-8'))
+    said = [(step.title, step.does, step.loses) for step in STEPS]
+    yield 'the steps of the page', [tuple(texts[f'step.{step.name}{part}'] for part in ('', '.does', '.loses')) for step in STEPS], said
 
 
 # ---- what the steps do

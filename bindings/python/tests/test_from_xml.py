@@ -52,6 +52,12 @@ def test_same(top, name, version):
         assert erd.compare(found.form, bytes_of(report)).same
 
 
+@pytest.mark.parametrize('encoding', ['UTF-16LE', 'UTF-16BE'])
+def test_an_order_of_bytes_that_is_declared(top, encoding):
+    report = report_of(top, 'small-ballot.json')
+    assert erd.compare(from_xml.convert(xml_of(report, 2, encoding)).form, bytes_of(report)).same
+
+
 @pytest.mark.parametrize('version', [1, 2])
 @pytest.mark.parametrize('name', REPORTS)
 def test_every_member_is_converted(top, name, version):

@@ -107,6 +107,12 @@ def test_names_of_files_do_not_paint_the_terminal(run, ballots):
     assert '\x1b' not in run(ballots).stdout
 
 
+@pytest.mark.parametrize(('pattern', 'names'), [
+    ('a.json', ['a.json']), ('**/a.json', ['a.json']), ('**/**/b.json', ['b.json']), ('inner/*.json', ['b.json']), ('*.txt', ['other.txt'])])
+def test_pattern(run, ballots, pattern, names):
+    assert sorted(rows_by_name(run('--json', '--pattern', pattern, ballots))) == names
+
+
 @pytest.mark.parametrize(('words', 'wrong'), [
     ([], 'FOLDER'), (['--json', '--csv', '.'], '--csv'), (['--jobs', 'x', '.'], '--jobs'),
     (['--prefer', '', '.'], '--prefer: a value is required'), (['--pattern', '/etc/*', '.'], '--pattern'), (['--jobs', '0', '.'], '--jobs')],
