@@ -109,6 +109,8 @@ def devices(report):
 def coordinates(report):
     for unit in report['GpUnit'][:3]:
         unit['ContactInformation'] = {'Name': 'Hall', 'LatLng': {'Latitude': 40.4406, 'Longitude': -79.0}}
+    report['GpUnit'][0] |= {'Shape': {'Kind': 'Polygon', 'Ring': [[-79.5, 40.0], [-79.0, 41.25]]}, 'Sizes': [[1, 2]]}
+    report['GpUnit'][1] |= {'Latitude': 40.5, 'Longitude': -79.25}
 
 
 def whole_numbers(report):
@@ -280,7 +282,11 @@ def one_of_two_gone(report):
 
 
 # What a step leaves as it is: the step, the damage, and why.
-LEFT = (('counts', counted, 'counted'), ('gone-candidates', one_of_two_gone, 'someGone'))
+def twin_units(report):
+    report['GpUnit'][2]['ExternalIdentifier'] = report['GpUnit'][1]['ExternalIdentifier']
+
+
+LEFT = (('counts', counted, 'counted'), ('gone-candidates', one_of_two_gone, 'someGone'), ('codes', twin_units, 'nothingTells'))
 
 # For each step: the report, the damage, and the steps beside it that the damaged report needs.
 DAMAGES = {

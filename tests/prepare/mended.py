@@ -29,6 +29,7 @@ def unused_ids(report):
 def coordinates(report):
     for unit in report['GpUnit'][:3]:
         unit['ContactInformation'] = {'Name': 'Hall'}
+    report['GpUnit'][0] |= {'Shape': {'Kind': 'Polygon'}, 'Sizes': [[1, 2]]}
 
 
 def whole_numbers(report):

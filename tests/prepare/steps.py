@@ -26,6 +26,7 @@ sys.dont_write_bytecode = True
 os.environ.setdefault('ERD_LIBRARY', str(ROOT / f'out/portable/linux-{platform.machine()}/liberd.so.0'))
 import damages  # noqa: E402
 import growth  # noqa: E402
+import harder_exports  # noqa: E402
 import mended  # noqa: E402
 import small_reports  # noqa: E402
 import erd_reference  # noqa: E402
@@ -34,10 +35,10 @@ from exports import rearranged  # noqa: E402
 import vendor_exports  # noqa: E402
 from erd.prepare import STEPS, Preparation  # noqa: E402
 
-# Exports as vendors write them: those of the examples, and three more.
+# Exports as vendors write them: those of the examples, and four more.
 RAW = sorted(EXAMPLES.glob('*.raw.json'))
 EXPORTS = {**{path.name: path.read_bytes() for path in RAW}, 'fusion-primary': vendor_exports.fusion_primary(),
-           'two-elections': vendor_exports.two_elections(), 'large-county': vendor_exports.large_county(20)}
+           'two-elections': vendor_exports.two_elections(), 'large-county': vendor_exports.large_county(20), 'towns': harder_exports.towns()}
 ALL = [step.name for step in STEPS]
 
 
@@ -112,7 +113,7 @@ def left_alone():
     for step, damage, why in damages.LEFT:
         data = bytes_of(damaged_so(damage))
         prepared, done = by_the_library(data, [step])
-        yield f'{step}: left, {why}', (data, [step], [why]), (prepared, [it['step'] for it in done], [left['why'] for it in done for left in it['left']])
+        yield f'{step}: left, {why}', (data, [step], [why]), (prepared, [it['step'] for it in done], sorted({left['why'] for it in done for left in it['left']}))
 
 
 def laws_of_examples(dice):
