@@ -246,13 +246,13 @@ enum erd_outcome erd_ballot(const void *bytes, size_t size, const char *prefer, 
                             size_t *length);
 
 /* Tells which ballots are not the same in two reports. The text is compact JSON in UTF-8, with no line end: an array with an object
- * for each BallotStyle whose texts of erd_ballot are not the same, or which only one report has. It looks like
+ * for each BallotStyle whose ballots are not the same, or which only one report has. It looks like
  *
  *     {"key":["local-level","","B1"],"left":0,"right":null}
  *
  * `left` and `right` are the positions of the style, or null. The outcome is ERD_GOOD if the array is empty, and ERD_BAD if it is
- * not. If a report is refused, the text is that of erd_compare_data. The words of contests, headers, candidates and parties are not
- * compared: erd_differences tells of them. */
+ * not. If a report is refused, the text is that of erd_compare_data. Ballots are the same if their texts of erd_ballot are, and they
+ * print the same words of contests, headers, selections, candidates, parties and units: erd_differences tells what differs. */
 enum erd_outcome erd_ballot_differences(const void *left, size_t left_size, const void *right, size_t right_size,
                                         const char *prefer, char **text, size_t *length);
 

@@ -238,8 +238,8 @@ export class Erd {
     /** Tells the ballot of the style at a position of a report, as `ballots` tells it. It throws as `ballots` does. */
     ballot(report: Report, position: number, options?: Options): OneBallot;
     /**
-     * Tells which ballots are not the same in two reports. The words of contests, headers, candidates and parties are not compared:
-     * `differences` tells of them. It throws as `ballots` does.
+     * Tells which ballots are not the same in two reports: in their lines, their voters, or the words of contests, headers, candidates
+     * and parties. `differences` tells what differs. It throws as `ballots` does.
      */
     ballotDifferences(left: Report, right: Report, options?: Options): BallotDifferences;
     /**

@@ -334,7 +334,7 @@ equal('ballots: one of them', erd.ballot(county, heads[1].position).ballot.key.j
 equal('ballots: its lines', erd.ballot(county, heads[1].position).ballot.lines.length, heads[1].allLines);
 equal('ballots: none there', erd.ballot(county, styles.length).ballot, null);
 equal('ballots: of a refused report', erd.ballots('{').text, 'not JSON\n');
-equal('ballots: the same', erd.ballotDifferences(county, other).text, 'same lines\n');
+equal('ballots: the same', erd.ballotDifferences(county, other).text, 'same ballots\n');
 const cut = JSON.parse(other);
 cut.Election[0].BallotStyle = cut.Election[0].BallotStyle.filter((style) => codeOf(style) !== 'BS-1');
 cut.Election[0].BallotStyle.find((style) => codeOf(style) === 'BS-2').OrderedContent.pop();

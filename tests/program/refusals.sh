@@ -95,8 +95,8 @@ program 'what each step would do' "$work/empty" 0 "$work/listed" '' prepare --li
 program 'an unknown step' "$work/empty" 3 "$work/empty" $'unknown step\n' prepare --steps nulls,nosuch "$work/nulled"
 printf 'ballot ["local-level","","S1"]: 3 lines\n' > "$work/ballots"
 program 'ballots' "$work/empty" 0 "$work/ballots" '' ballots examples/small-ballot.json
-printf 'same lines\n' > "$work/same-lines"
-program 'the same lines' "$work/empty" 0 "$work/same-lines" '' ballots examples/small-ballot.json "$work/changed"
+printf 'ballot ["local-level","","S1"]: differs\n' > "$work/differs"
+program 'a ballot with other words' "$work/empty" 1 "$work/differs" '' ballots examples/small-ballot.json "$work/changed"
 for name in \
     worked::refused_two_vendors \
     worked::refused_shape \

@@ -48,7 +48,7 @@ export class BallotDifferences extends Compared {
         if (this.side !== null) {
             return super.text;
         }
-        return this.same ? ended('same lines') : this.differences.map(({ line }) => ended(line)).join('');
+        return this.same ? ended('same ballots') : this.differences.map(({ line }) => ended(line)).join('');
     }
 }
 

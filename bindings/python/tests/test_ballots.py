@@ -71,7 +71,7 @@ def test_each_ballot(report):
 
 def test_the_same_ballots(report):
     found = erd.ballot_differences(report, report)
-    assert found.same and found and found.lines == ('same lines',)
+    assert found.same and found and found.lines == ('same ballots',)
 
 
 def test_ballots_that_differ(top):
@@ -92,6 +92,48 @@ def test_ballots_that_differ(top):
     words = {'differs': 'differs', 'only left': 'only in the left report', 'only right': 'only in the right report'}
     assert found.lines == tuple(f'ballot {erd.results.compact(list(it.key))}: {words[it.how]}' for it in found.differences)
     assert not found.same and not found
+
+
+def named_by(style, election):
+    """The `@id` of all that the ballot of a style prints: headers, contests, selections, candidates, parties, persons and units."""
+    contests = {it['@id']: it for it in election['Contest']}
+    candidates = {it['@id']: it for it in election['Candidate']}
+    found = {*style['GpUnitIds'], *style.get('PartyIds', [])}
+    for _, entry in contents(style['OrderedContent']):
+        found.add(entry.get('HeaderId', entry.get('ContestId')))
+        contest = contests.get(entry.get('ContestId'), {})
+        listed = entry.get('OrderedContestSelectionIds') or [it['@id'] for it in contest.get('ContestSelection', [])]
+        found |= {*listed, *contest.get('PrimaryPartyIds', []), contest.get('CandidateId')}
+        for selection in (it for it in contest.get('ContestSelection', []) if it['@id'] in listed):
+            found |= {*selection.get('EndorsementPartyIds', []), *selection.get('PartyIds', []), *selection.get('CandidateIds', [])}
+    return found | {candidates[it].get(name) for it in found & candidates.keys() for name in ('PartyId', 'PersonId')}
+
+
+@pytest.mark.parametrize('family, member, value', [
+    ('Candidate', 'BallotName', 'Another Name'), ('Candidate', 'PartyId', None), ('Contest', 'VotesAllowed', 7), ('Contest', 'BallotTitle', 'Title'),
+    ('Header', 'Name', 'Head'), ('Party', 'Abbreviation', 'XYZ'), ('Person', 'FullName', 'Another Name'), ('GpUnit', 'Name', 'Place'),
+    ('ContestSelection', 'EndorsementPartyIds', []), ('Candidate', 'FileDate', '2026-01-02'), ('Office', 'Name', 'Office'),
+])
+def test_ballots_with_other_words(top, family, member, value):
+    """One member of one object is changed. The ballots that print the object differ, and no other."""
+    left = (top / 'examples' / 'county-general.json').read_text(encoding='utf-8')
+    hidden = family == 'Office' or member == 'FileDate'
+    whole = json.loads(left)
+    selections = [it for contest in whole['Election'][0]['Contest'] for it in contest.get('ContestSelection', [])]
+    for number in range(len(selections if family == 'ContestSelection' else whole.get(family, whole['Election'][0].get(family)))):
+        right = json.loads(left)
+        election = right['Election'][0]
+        held = [it for contest in election['Contest'] for it in contest.get('ContestSelection', [])]
+        changed = (held if family == 'ContestSelection' else right.get(family, election.get(family)))[number]
+        if (member == 'VotesAllowed' and member not in changed) or changed.get(member, value) == value and value in (None, []):
+            continue
+        changed[member] = value
+        if value is None:
+            del changed[member]
+        keys = {it['ExternalIdentifier'][0]['Value'] for it in election['BallotStyle'] if changed['@id'] in named_by(it, json.loads(left)['Election'][0])}
+        found = erd.ballot_differences(left, json.dumps(right))
+        assert found.refused is None
+        assert {(it.key[2], it.how) for it in found.differences} == (set() if hidden else {(key, 'differs') for key in keys}), changed['@id']
 
 
 def test_what_is_refused():

@@ -31,6 +31,6 @@ abbrev pub differing_lines : List StyleFound → List ℕ
 differing_lines found = text_of_lines (found_lines found)
 
 -- Comparing the ballots of the two inputs ends with this outcome and writes this text: why an input is refused, as a comparison
--- has it, else `same lines`, or a line for each style whose ballots are not the same.
+-- has it, else `same ballots`, or a line for each style whose ballots are not the same.
 abbrev pub IsBallotDifferenceLines : Preference → List ℕ → List ℕ → Outcome → List ℕ → Type 0
 IsBallotDifferenceLines π = IsPairTold π (AreBothTold (TellsDiffering differing_lines π) π)

@@ -6,6 +6,8 @@ mod KeyedKinds
 mod Found
 mod Placed
 mod KeysFound
+mod KeysHeld
+mod MarkLists
 mod Written
 mod SelectionPairs
 mod LineNodes

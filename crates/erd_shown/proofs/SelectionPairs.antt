@@ -31,7 +31,7 @@ module _ (π : Preference) (t : Data) (ds : List Data) (old sorted : List Pair) 
   abbrev value_named : Named → Data
   value_named x = x.1
 
-  values_sorted : map (λ (p : Pair). view p.1.now) sorted ≡ in_order
+  pub values_sorted : map (λ (p : Pair). view p.1.now) sorted ≡ in_order
   values_sorted = sym (map-map value_named of_pair sorted) ∙ ap (map value_named) pairs_sorted ∙ map-map value_named (named_selection π t) in_order ∙ map-id in_order
 
   pub values_whole : items_have_float (items_of ds) ≡ false → items_have_float (items_of (map (λ (p : Pair). view p.1.now) sorted)) ≡ false

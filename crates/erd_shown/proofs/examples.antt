@@ -2,3 +2,4 @@ pub mod ValueExamples
 pub mod RowExamples
 pub mod PartnerExamples
 pub mod BallotExamples
+pub mod WordExamples

@@ -1,17 +1,22 @@
 -- The styles whose ballots are not the same in two reports. All of this is the profile's own.
-use Rattle.std.specs.Prelude.{ℕ, ◌≡◌, List, Bool, if◌then◌else◌, Option, Some, None, map, option_copied, option_map, slice_get, codes}
+use Rattle.std.specs.Prelude.{ℕ, ◌≡◌, List, Bool, false, not, ◌&&◌, if◌then◌else◌, Option, Some, None, map, option_copied, option_map, slice_get, codes}
 use Rattle.std.specs.List.{filter_map}
-use Rattle.std.specs.Option.{option_cmp}
+use Rattle.std.specs.Option.{option_cmp, option_map_or}
 use Rattle.std.specs.Ordering.{eq_by_cmp}
+use Rattle.std.specs.Str.{bytes_eq}
 use Rattle.serde_json.specs.Data.{Data, object, Members, no_members, member}
+use Rattle.serde_json.specs.Written.{compact_text}
 use Rattle.erd_tables.specs.declared.class.Family.TheVariants as family
 use Rattle.erd_check.specs.Trees.{is_same_json}
 use Rattle.erd_meaning.specs.Keys.{Preference, key_cmp}
 use Rattle.erd_meaning.specs.Lookups.{rising_keys}
+use Rattle.erd_meaning.specs.Objects.{objects}
 use Rattle.erd_meaning.specs.declared.keys.key.Key.{Key}
+use Rattle.erd_shown.specs.BallotWords.{selections_in}
 use Rattle.erd_shown.specs.Ballots.{ballot_in}
 use Rattle.erd_shown.specs.KeyData.{array_of, shown_key_or_null}
 use Rattle.erd_shown.specs.Partners.{partners}
+use Rattle.erd_shown.specs.Reworded.{is_ballot_reworded}
 use Rattle.erd_shown.specs.RowData.{number_or_null}
 use Rattle.erd_shown.specs.Rows.{AreRows}
 use Rattle.erd_shown.specs.declared.ballot_differences.BallotDifference.{BallotDifference}
@@ -41,9 +46,21 @@ style_data s =
 abbrev pub styles_data : List StyleFound → Data
 styles_data found = array_of (map style_data found)
 
--- True if the ballots of the styles at two positions are one value.
+-- True if the ballots of the styles at two positions are one value: their lines, and which voters get them.
+abbrev pub has_same_lines : Preference → Data → Preference → Data → ℕ → ℕ → Bool
+has_same_lines π t ρ u i j = is_same_json (ballot_in π t i) (ballot_in ρ u j)
+
+-- True if the ballot of the style at this position prints other words in the other report.
+abbrev pub is_reworded_at : Preference → Data → Preference → Data → ℕ → Bool
+is_reworded_at π t ρ u i = option_map_or (λ o. is_ballot_reworded π t ρ u o.value) (slice_get (objects family.Style t) i) false
+
+-- True if the same is printed of the selections on each line of the ballots of the styles at two positions.
+abbrev pub has_same_selections : Preference → Data → Preference → Data → ℕ → ℕ → Bool
+has_same_selections π t ρ u i j = bytes_eq (compact_text (selections_in π t i)) (compact_text (selections_in ρ u j))
+
+-- True if the ballots of the styles at two positions are the same: their lines, their selections, and all words.
 abbrev pub is_same_ballot : Preference → Data → Preference → Data → ℕ → ℕ → Bool
-is_same_ballot π t ρ u i j = is_same_json (ballot_in π t i) (ballot_in ρ u j)
+is_same_ballot π t ρ u i j = has_same_lines π t ρ u i j && (has_same_selections π t ρ u i j && not (is_reworded_at π t ρ u i))
 
 -- What is told of a style of both reports: nothing if its ballots are the same.
 abbrev pub told_of_both : (ℕ → ℕ → Bool) → Option (Option Key × ℕ) → Option (Option Key × ℕ) → Option StyleFound

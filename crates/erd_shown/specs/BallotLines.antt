@@ -44,9 +44,9 @@ side_words (Some i) (Some j) = codes "differs"
 abbrev pub found_line : StyleFound → List ℕ
 found_line s = ballot_line s.key (side_words s.left s.right)
 
--- The lines for the styles whose ballots are not the same: `same lines` if there are none, or else one for each.
+-- The lines for the styles whose ballots are not the same: `same ballots` if there are none, or else one for each.
 abbrev pub found_lines : List StyleFound → List (List ℕ)
-found_lines [] = codes "same lines" ∷ []
+found_lines [] = codes "same ballots" ∷ []
 found_lines (s ∷ ss) = map found_line (s ∷ ss)
 
 -- The text of the lines, each ended by one line feed.

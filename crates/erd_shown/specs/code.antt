@@ -5,6 +5,7 @@ pub mod Selections
 pub mod LineLists
 pub mod PlacesFound
 pub mod LineTexts
+pub mod Marks
 pub mod BesideWritten
 pub mod LentNames
 pub mod SelectionsFound

@@ -1,16 +1,21 @@
-ghost use Rattle.std.specs.Prelude.{◌≡◌, ◌++◌, map, bytes_eq, Some, option_map, option_to_list, slice_get, string_bytes, IfOk, OnOk};
+ghost use Rattle.std.specs.Prelude.{◌≡◌, ◌++◌, ◌&&◌, not, map, Some, option_map, option_to_list, slice_get, string_bytes, IfOk, OnOk};
 ghost use Rattle.std.specs.List.{filter_map};
 ghost use Rattle.serde_json.specs.View.{view};
 ghost use Rattle.serde_json.specs.Written.{compact_text};
 ghost use Rattle.erd_text.specs.Tokens.{members_tokens, value_tokens};
-ghost use Rattle.erd_shown.specs.BallotDifferences.{AreBallotDifferences, AreStyleRows, is_same_ballot, of_style, right_members, style_data, styles_data, told_of_both, told_of_left, told_of_right, told_of_row};
+ghost use Rattle.erd_shown.specs.BallotDifferences.{AreBallotDifferences, AreStyleRows, has_same_lines, has_same_selections, is_reworded_at, is_same_ballot, of_style, right_members, style_data, styles_data, told_of_both, told_of_left, told_of_right, told_of_row};
 ghost use Rattle.erd_shown.specs.code.LineLists.{of_place};
+ghost use Rattle.erd_shown.specs.code.Marks.{AreMarks};
 
 use crate::ballots::ballot_text;
 use crate::beside::rows_between;
 use crate::keys::write_key_or_null;
+use crate::marks::{Marks, marks_between};
+use crate::reworded::is_same_text;
+use crate::reworded_lines::is_ballot_reworded;
 use crate::row_texts::write_place;
 use crate::rows::Row;
+use crate::selection_words::selections_text;
 use crate::texts::text_of;
 use erd_meaning::{Key, Report};
 use erd_tables::Family;
@@ -19,6 +24,14 @@ use std::alloc::{AllocError, Global};
 
 /// A style: its key, and its position in its report.
 type Place<'a> = (Option<&'a Key>, usize);
+
+/// Two reports, and the objects of which ballots print other words in the right one.
+#[derive(Drop)]
+struct Pair<'a, 'l, 'r> {
+    left: &'a Report<'l>,
+    right: &'a Report<'r>,
+    marks: Marks,
+}
 
 /// A style whose ballots are not the same in two reports.
 #[derive(Clone, Copy, Debug, PartialEq, Eq)]
@@ -35,7 +48,7 @@ pub struct BallotDifference<'a> {
 /// them.
 ///
 /// Two ballots are the same if they have the same lines in the same order, for the same parties and units, with the same
-/// selections. The words of a contest, a header or a candidate are not compared.
+/// selections, and if no object that they print has other words in the right report.
 ///
 /// # Errors
 ///
@@ -55,7 +68,9 @@ pub fn differing_ballots<'a>(
     let ones = left.rising_keys(alloc, Family::Style)?;
     let others = right.rising_keys(alloc, Family::Style)?;
     let rows = rows_of_styles(alloc, &ones, &others)?;
-    told_of_rows(alloc, left, &ones, right, &others, &rows)
+    let marks = marks_between(alloc, left, right)?;
+    let pair = Pair { left, right, marks };
+    told_of_rows(alloc, &pair, &ones, &others, &rows)
 }
 
 /// Returns styles whose ballots are not the same as compact JSON: of each its key, and its position in the left report and in
@@ -103,18 +118,18 @@ fn keys_in<'a>(alloc: Global, places: &[Place<'a>]) -> Result<Vec<Option<&'a Key
 /// Returns the styles that are told of rows.
 fn told_of_rows<'a>(
     alloc: Global,
-    left: &Report,
+    pair: &Pair,
     ones: &[Place<'a>],
-    right: &Report,
     others: &[Place<'a>],
     rows: &[Row],
 ) -> Result<Vec<BallotDifference<'a>>, AllocError>
+    requires marks { AreMarks pair.now.left.now.prefer (view pair.now.left.now.tree) pair.now.right.now.prefer (view pair.now.right.now.tree) pair.now.marks }
     ensures { IfOk result (λ found. map of_style found.items
-        ≡ filter_map (told_of_row (is_same_ballot left.now.prefer (view left.now.tree) right.now.prefer (view right.now.tree)) (map of_place ones.now) (map of_place others.now)) rows.now) }
+        ≡ filter_map (told_of_row (is_same_ballot pair.now.left.now.prefer (view pair.now.left.now.tree) pair.now.right.now.prefer (view pair.now.right.now.tree)) (map of_place ones.now) (map of_place others.now)) rows.now) }
 {
     let mut found = Vec::new(alloc);
     for row in rows {
-        let told = told_of_row(alloc, left, ones, right, others, row)?;
+        let told = told_of_row(alloc, pair, ones, others, row)?;
         push_told(told, &mut found)?;
     }
     Ok(found)
@@ -136,20 +151,20 @@ fn push_told<'a>(
 /// Returns the style that is told of a row, if one is.
 fn told_of_row<'a>(
     alloc: Global,
-    left: &Report,
+    pair: &Pair,
     ones: &[Place<'a>],
-    right: &Report,
     others: &[Place<'a>],
     row: &Row,
 ) -> Result<Option<BallotDifference<'a>>, AllocError>
+    requires marks { AreMarks pair.now.left.now.prefer (view pair.now.left.now.tree) pair.now.right.now.prefer (view pair.now.right.now.tree) pair.now.marks }
     ensures { IfOk result (λ found. option_map of_style found
-        ≡ told_of_row (is_same_ballot left.now.prefer (view left.now.tree) right.now.prefer (view right.now.tree)) (map of_place ones.now) (map of_place others.now) row.now) }
+        ≡ told_of_row (is_same_ballot pair.now.left.now.prefer (view pair.now.left.now.tree) pair.now.right.now.prefer (view pair.now.right.now.tree)) (map of_place ones.now) (map of_place others.now) row.now) }
 {
     match *row {
         Row::Both(one, other) => {
             let one = place_in(ones, one);
             let other = place_in(others, other);
-            told_of_both(alloc, left, one, right, other)
+            told_of_both(alloc, pair, one, other)
         }
         Row::Removed(one) => Ok(told_of_left(place_in(ones, one))),
         Row::Added(other) => Ok(told_of_right(place_in(others, other))),
@@ -157,7 +172,7 @@ fn told_of_row<'a>(
         Row::MovedHere(one, other) => {
             let one = place_in(ones, one);
             let other = place_in(others, other);
-            told_of_both(alloc, left, one, right, other)
+            told_of_both(alloc, pair, one, other)
         }
     }
 }
@@ -172,17 +187,17 @@ fn place_in<'a>(places: &[Place<'a>], index: usize) -> Option<Place<'a>>
 /// Returns what is told of a style of both reports: nothing if its ballots are the same.
 fn told_of_both<'a>(
     alloc: Global,
-    left: &Report,
+    pair: &Pair,
     one: Option<Place<'a>>,
-    right: &Report,
     other: Option<Place<'a>>,
 ) -> Result<Option<BallotDifference<'a>>, AllocError>
+    requires marks { AreMarks pair.now.left.now.prefer (view pair.now.left.now.tree) pair.now.right.now.prefer (view pair.now.right.now.tree) pair.now.marks }
     ensures { IfOk result (λ found. option_map of_style found
-        ≡ told_of_both (is_same_ballot left.now.prefer (view left.now.tree) right.now.prefer (view right.now.tree)) (option_map of_place one.entry) (option_map of_place other.entry)) }
+        ≡ told_of_both (is_same_ballot pair.now.left.now.prefer (view pair.now.left.now.tree) pair.now.right.now.prefer (view pair.now.right.now.tree)) (option_map of_place one.entry) (option_map of_place other.entry)) }
 {
     match one {
         Some(one) => match other {
-            Some(other) => told_of_pair(alloc, left, one, right, other),
+            Some(other) => told_of_pair(alloc, pair, one, other),
             None => Ok(None),
         },
         None => Ok(None),
@@ -192,15 +207,15 @@ fn told_of_both<'a>(
 /// Returns what is told of a style with these places.
 fn told_of_pair<'a>(
     alloc: Global,
-    left: &Report,
+    pair: &Pair,
     one: Place<'a>,
-    right: &Report,
     other: Place<'a>,
 ) -> Result<Option<BallotDifference<'a>>, AllocError>
+    requires marks { AreMarks pair.now.left.now.prefer (view pair.now.left.now.tree) pair.now.right.now.prefer (view pair.now.right.now.tree) pair.now.marks }
     ensures { IfOk result (λ found. option_map of_style found
-        ≡ told_of_both (is_same_ballot left.now.prefer (view left.now.tree) right.now.prefer (view right.now.tree)) (Some (of_place one.entry)) (Some (of_place other.entry))) }
+        ≡ told_of_both (is_same_ballot pair.now.left.now.prefer (view pair.now.left.now.tree) pair.now.right.now.prefer (view pair.now.right.now.tree)) (Some (of_place one.entry)) (Some (of_place other.entry))) }
 {
-    if is_same_ballot(alloc, left, one.1, right, other.1)? {
+    if is_same_ballot(alloc, pair, one.1, other.1)? {
         Ok(None)
     } else {
         Ok(Some(BallotDifference {
@@ -211,26 +226,63 @@ fn told_of_pair<'a>(
     }
 }
 
+/// Returns whether the ballots of the styles at two positions are the same.
+fn is_same_ballot(alloc: Global, pair: &Pair, one: usize, other: usize) -> Result<bool, AllocError>
+    requires marks { AreMarks pair.now.left.now.prefer (view pair.now.left.now.tree) pair.now.right.now.prefer (view pair.now.right.now.tree) pair.now.marks }
+    ensures { IfOk result (λ same. same ≡ is_same_ballot pair.now.left.now.prefer (view pair.now.left.now.tree) pair.now.right.now.prefer (view pair.now.right.now.tree) one other) }
+{
+    let lines = has_same_lines(alloc, pair.left, one, pair.right, other)?;
+    let selections = has_same_selections(alloc, pair.left, one, pair.right, other)?;
+    let reworded = is_reworded_at(alloc, pair, one)?;
+    Ok(is_same(lines, selections, reworded))
+}
+
+/// Returns whether two ballots are the same, from whether their lines and selections are, and whether other words are printed.
+fn is_same(lines: bool, selections: bool, reworded: bool) -> bool
+    ensures { result ≡ (lines && (selections && not reworded)) }
+{
+    lines && selections && !reworded
+}
+
 /// Returns whether the ballots of the styles at two positions have one text.
-fn is_same_ballot(
+fn has_same_lines(
     alloc: Global,
     left: &Report,
     one: usize,
     right: &Report,
     other: usize,
 ) -> Result<bool, AllocError>
-    ensures { IfOk result (λ same. same ≡ is_same_ballot left.now.prefer (view left.now.tree) right.now.prefer (view right.now.tree) one other) }
+    ensures { IfOk result (λ same. same ≡ has_same_lines left.now.prefer (view left.now.tree) right.now.prefer (view right.now.tree) one other) }
 {
     let one = ballot_text(alloc, left, one)?;
     let other = ballot_text(alloc, right, other)?;
     Ok(is_same_text(one.as_str(), other.as_str()))
 }
 
-/// Returns whether two texts are one.
-fn is_same_text(one: &str, other: &str) -> bool
-    ensures { result ≡ bytes_eq one.now other.now }
+/// Returns whether the same is printed of the selections on each line of the ballots of the styles at two positions.
+fn has_same_selections(
+    alloc: Global,
+    left: &Report,
+    one: usize,
+    right: &Report,
+    other: usize,
+) -> Result<bool, AllocError>
+    ensures { IfOk result (λ same. same ≡ has_same_selections left.now.prefer (view left.now.tree) right.now.prefer (view right.now.tree) one other) }
 {
-    one == other
+    let one = selections_text(alloc, left, one)?;
+    let other = selections_text(alloc, right, other)?;
+    Ok(is_same_text(one.as_str(), other.as_str()))
+}
+
+/// Returns whether the ballot of the style at a position of the left report prints other words in the right one.
+fn is_reworded_at(alloc: Global, pair: &Pair, position: usize) -> Result<bool, AllocError>
+    requires marks { AreMarks pair.now.left.now.prefer (view pair.now.left.now.tree) pair.now.right.now.prefer (view pair.now.right.now.tree) pair.now.marks }
+    ensures { IfOk result (λ it. it ≡ is_reworded_at pair.now.left.now.prefer (view pair.now.left.now.tree) pair.now.right.now.prefer (view pair.now.right.now.tree) position) }
+{
+    match pair.left.object(Family::Style, position) {
+        Some(style) => is_ballot_reworded(alloc, pair.left, style, pair.right, &pair.marks),
+        None => Ok(false),
+    }
 }
 
 /// Returns what is told of a style of the left report alone.

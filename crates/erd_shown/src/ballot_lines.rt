@@ -73,7 +73,7 @@ fn count_at(alloc: Global, report: &Report, position: usize) -> Result<usize, Al
     }
 }
 
-/// Returns a line for each style whose ballots are not the same, or the line `same lines` if there are none: the word `ballot`,
+/// Returns a line for each style whose ballots are not the same, or the line `same ballots` if there are none: the word `ballot`,
 /// the key as compact JSON, and which report has the style alone, or `differs`. Each line is ended by one line feed.
 ///
 /// # Errors
@@ -82,7 +82,7 @@ fn count_at(alloc: Global, report: &Report, position: usize) -> Result<usize, Al
 ///
 /// ```
 /// let text = ballot_differences_lines(alloc, &differing_ballots(alloc, report, report)?)?;
-/// assert_eq!(rt; text.as_str(), "same lines\n");
+/// assert_eq!(rt; text.as_str(), "same ballots\n");
 /// ```
 pub fn ballot_differences_lines(
     alloc: Global,
@@ -91,7 +91,7 @@ pub fn ballot_differences_lines(
     ensures { IfOk result (λ text. string_bytes text ≡ lines_text (found_lines (map of_style found.now))) }
 {
     if found.is_empty() {
-        return String::from_str(alloc, "same lines\n");
+        return String::from_str(alloc, "same ballots\n");
     }
     lines_found(alloc, found)
 }

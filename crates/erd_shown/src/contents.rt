@@ -86,7 +86,7 @@ fn write_inside(report: &Report, value: &Value, out: &mut Output) -> Result<(), 
 }
 
 /// Writes an empty array.
-fn write_nothing(out: &mut Output) -> Result<(), AllocError>
+pub(crate) fn write_nothing(out: &mut Output) -> Result<(), AllocError>
     ensures { OnOk result (out.new ≡ out.old ++ value_tokens (array no_items)) }
 {
     out.begin_array()?;
@@ -191,7 +191,7 @@ fn write_if_carried(
 }
 
 /// Returns whether the class carries a member with this name.
-fn is_carried(class: Option<Class>, name: &str) -> bool
+pub(crate) fn is_carried(class: Option<Class>, name: &str) -> bool
     ensures { result ≡ is_carried class name.now }
 {
     match class {

@@ -140,8 +140,8 @@ class BallotDifferences:
 
     @property
     def same(self) -> bool:
-        """Whether both reports are accepted and have the same ballots. The words of contests, headers, candidates and parties are not
-        compared: `differences` tells of them."""
+        """Whether both reports are accepted and have the same ballots: the same lines, voters, and words of contests, headers, candidates
+        and parties. `differences` tells what differs."""
         return self.refused is None and not self.differences
 
     @property
@@ -149,7 +149,7 @@ class BallotDifferences:
         """The lines that `erd ballots` writes, as far as the faults of a refused report are listed."""
         if self.check is not None:
             return tuple(f'{self.refused}: {line}' for line in self.check.lines)
-        return ('same lines',) if self.same else tuple(difference.line for difference in self.differences)
+        return ('same ballots',) if self.same else tuple(difference.line for difference in self.differences)
 
     def __bool__(self) -> bool:
         return self.same

@@ -122,8 +122,7 @@ Example:
   erd differences vendor-a.json vendor-b.json";
 
 /// What `ballots` does.
-pub const BALLOTS: &str =
-    "Lists the ballots of a report, or those whose lines differ in two reports";
+pub const BALLOTS: &str = "Lists the ballots of a report, or those that differ in two reports";
 
 /// What `ballots` reads and writes.
 pub const BALLOTS_AT_LENGTH: &str =
@@ -132,22 +131,22 @@ its style and how many lines a voter sees on it:
 
   ballot [\"local-level\",\"\",\"S1\"]: 14 lines
 
-With a second file, it writes `same lines`, or a line for each ballot that only one report has, or whose
-lines differ:
+With a second file, it writes `same ballots`, or a line for each ballot that only one report has, or
+that differs:
 
   ballot [\"local-level\",\"\",\"S1\"]: differs
 
-A line is a contest or a header, and its choices, in their order. Other words, such as titles and how
-many votes are allowed, are not compared here: take `erd compare` to learn whether two reports mean the
-same.
+Two ballots differ in their contests, headers and choices or the order of these, in which precincts and
+parties get them, or in words that they print or may print of these, such as titles, names, and how many
+votes are allowed.
 
 If a report is refused, it writes what `erd check` writes for it, of two reports what `erd compare`
 writes.";
 
 /// The exit statuses of `ballots`, and an example.
 pub const BALLOTS_ENDS: &str = "Exit status:
-  0  written, or the same lines
-  1  the lines differ, or a report is refused: the lines are on standard output
+  0  written, or the same ballots
+  1  ballots differ, or a report is refused: the lines are on standard output
   2  a report is not JSON
   3  wrong arguments, a file that cannot be opened, more than 67,108,864 bytes, a failed read or write
   4  no memory

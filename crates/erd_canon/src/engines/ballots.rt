@@ -72,7 +72,7 @@ pub fn run_ballots_data<S: Source, O: Sink>(
 /// Reads two reports to their ends, first the left report and then the right one, compares their ballots under a preferred type
 /// of identifier, or under none, writes which are not the same to `out`, and flushes `out`.
 ///
-/// It writes `same lines`, or a line for each style whose ballots are not the same, in the order of
+/// It writes `same ballots`, or a line for each style whose ballots are not the same, in the order of
 /// `erd_shown::differing_ballots`. If the left report is refused, or else if the right one is, it writes what `run_compare_with`
 /// writes. The lines of the ballots are in memory as a whole before anything is written. A report may have at most 67,108,864
 /// bytes. The devices must not have failed before the call. After a failure, the run reads, writes and flushes nothing more.

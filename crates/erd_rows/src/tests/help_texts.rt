@@ -87,8 +87,8 @@ const OF_BALLOTS: &[&str] = &[
     "Usage: erd ballots [OPTIONS] <FILE> [RIGHT]\n",
     "--json",
     "--prefer <TYPE>",
-    "`same lines`",
-    "Exit status:\n  0  written, or the same lines\n",
+    "`same ballots`",
+    "Exit status:\n  0  written, or the same ballots\n",
     "Example:\n  erd ballots vendor-a.json vendor-b.json\n",
 ];
 

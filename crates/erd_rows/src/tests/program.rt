@@ -62,7 +62,7 @@ const LATER_ROWS: &[Row] = &[
     ("erd ballots --json one", 0, "[]\n", NOTHING),
     ("erd ballots empty", 1, ": missing member @type\n", NOTHING),
     ("erd ballots text", 2, "not JSON\n", NOTHING),
-    ("erd ballots one other", 0, "same lines\n", NOTHING),
+    ("erd ballots one other", 0, "same ballots\n", NOTHING),
     ("erd ballots --json one other", 0, "[]\n", NOTHING),
     (
         "erd ballots one empty",

@@ -41,7 +41,7 @@ abbrev on_the_left : StyleFound
 on_the_left = record { key = Some (local_key (codes "S1")); left = Some 0; right = None }
 
 none_differs : AreBallotDifferences None one None one []
-unfolding serde_json_on_literals
+unfolding digits serde_json_on_literals
 none_differs = record { rows = Both 0 0 ∷ []; are_rows = record { left_lines = refl; right_lines = refl; so = (refl, tt) }; tells = refl }
 
 other_order : AreBallotDifferences None one None exchanged (on_both ∷ [])
@@ -52,7 +52,7 @@ one_alone : AreBallotDifferences None one None without (on_the_left ∷ [])
 unfolding serde_json_on_literals
 one_alone = record { rows = Removed 0 ∷ []; are_rows = record { left_lines = refl; right_lines = refl; so = (refl, tt) }; tells = refl }
 
-lines_told : found_lines [] ≡ codes "same lines" ∷ []
+lines_told : found_lines [] ≡ codes "same ballots" ∷ []
 lines_told = refl
 
 line_told : found_lines (on_the_left ∷ []) ≡ codes "ballot [\"local-level\",\"\",\"S1\"]: only in the left report" ∷ []

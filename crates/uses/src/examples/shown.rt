@@ -160,7 +160,7 @@ fn no_ballot_differs(rt: &impl Abort, alloc: Global, report: &Report) -> Result<
     let text = ballot_differences_text(alloc, &differing_ballots(alloc, report, report)?)?;
     assert!(rt; text.as_str() == "[]");
     let text = ballot_differences_lines(alloc, &differing_ballots(alloc, report, report)?)?;
-    assert!(rt; text.as_str() == "same lines\n");
+    assert!(rt; text.as_str() == "same ballots\n");
     Ok(())
 }
 

@@ -1,11 +1,5 @@
-use Rattle.erd_shown.proofs.Common.{ap₂, ◌∙◌, bytes_eq, view}
-use Rattle.erd_shown.proofs.BallotTrees.{same_ballots}
+use Rattle.erd_shown.proofs.Common.{◌&&◌, not, ap₂, ◌∙◌}
 use Rattle.erd_shown.proofs.ballot_differences.is_same_ballot.Goals as goal
 
 pub returns : goal.returns
-returns c =
-    let left = c.args.left.now in
-    let right = c.args.right.now in
-    c.is_same_text.ensures
-    ∙ ap₂ bytes_eq (c.as_str.ensures.value ∙ c.in_ok-one.ensures) (c.as_str-2.ensures.value ∙ c.in_ok-other.ensures)
-    ∙ same_ballots left.prefer (view left.tree) right.prefer (view right.tree) c.args.one c.args.other
+returns c = c.is_same.ensures ∙ ap₂ (λ x y. x && y) c.in_ok-lines.ensures (ap₂ (λ x y. x && not y) c.in_ok-selections.ensures c.in_ok-reworded.ensures)
