@@ -343,6 +343,13 @@ const notTheSame = erd.ballotDifferences(county, shorter);
 equal('ballots: not the same', notTheSame.differences.map(({ key, how }) => `${key[2]} ${how}`).join(), 'BS-1 only left,BS-2 differs');
 equal('ballots: their status', notTheSame.status, 1);
 equal('ballots: the other way round', erd.ballotDifferences(shorter, county).differences.some(({ how }) => how === 'only right'), true);
+// With another number of votes in one contest, the ballots that list it differ.
+const votes = JSON.parse(county);
+const contest = votes.Election[0].Contest.filter((it) => it.VotesAllowed !== undefined).pop();
+const lists = (entries) => entries.some((it) => it.ContestId === contest['@id'] || lists(it.OrderedContent ?? []));
+contest.VotesAllowed += 1;
+equal('ballots: other words', erd.ballotDifferences(county, JSON.stringify(votes)).differences.map(({ key, how }) => `${key[2]} ${how}`).join(),
+    styles.filter((it) => lists(it.OrderedContent)).map((it) => `${codeOf(it)} differs`).sort().join());
 equal('ballots: the right report is refused', erd.ballotDifferences(county, '{').text, 'right: not JSON\n');
 throws('ballots: no position', TypeError, () => erd.ballot(county, -1));
 
