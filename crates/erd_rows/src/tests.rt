@@ -4,6 +4,7 @@ mod checked_rows;
 mod command_lines;
 mod compared_rows;
 mod devices;
+mod disposals;
 mod edits;
 mod election_rows;
 mod errors;
