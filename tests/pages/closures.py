@@ -20,6 +20,7 @@ PAGE = ROOT / 'docs' / 'DEFINITIONS.md'
 CRATES = ['erd_tables', 'erd_index', 'erd_check', 'erd_prepare', 'erd_text', 'erd_meaning', 'erd_normal', 'erd_shown', 'erd_compare', 'erd_canon', 'erd_program', 'erd_c']
 # Crates of the kit whose definitions a reader has to know too.
 KIT = ['json', 'serde_json', 'fast_float', 'ryu', 'clap']
+MOST_IN_LINE = 19
 BEGIN, END = '<!-- the lists begin -->\n', '<!-- the lists end -->\n'
 
 # The promises, with the definitions that state them.
@@ -29,13 +30,13 @@ PROMISES = [
     ('How bytes are refused (`check_bytes`)', ['erd_canon/Refused.RefusedAs', 'erd_canon/Refused.IsSomeReport']),
     ('What a comparison answers (`compare_bytes`)', [
         'erd_canon/EngineTexts.IsComparison', 'erd_canon/ByteLaws.TellsWhatIsSaid', 'erd_canon/ByteLaws.AgreesUnderEach', 'erd_canon/Refused.RefusedSide']),
-    ('Answers as data (`check_data`, `compare_data`, `differences_data`)', [
+    ('Answers as data (`check_data_with` and its neighbours)', [
         'erd_canon/DataAnswers.IsCheckedData', 'erd_canon/DataAnswers.IsComparedData', 'erd_canon/DataAnswers.IsListedData']),
     ('The steps that prepare a report (`prepare`)', ['erd_prepare/Laws.UntoldStays', 'erd_prepare/Laws.UntoldIsUnchanged', 'erd_prepare/Steps.IsStepDone']),
     ('What is told of steps (`told`)', ['erd_prepare/Tellings.IsTellingAdded', 'erd_prepare/Tellings.AreNumbersInFront', 'erd_prepare/Numbers.AreChangedNumbers']),
     ('A file that is prepared (`prepare_bytes`)', ['erd_prepare/Steps.IsNamedStepDone', 'erd_prepare/Preparations.IsPrepared',
                                                    'erd_prepare/Preparations.IsUnprepared']),
-    ('What the engines for ballots and for steps write (`run_ballots`, `run_prepare`)', [
+    ('What the engines for ballots and for steps write (`run_report`, `run_pair`, `run_prepare`)', [
         'erd_canon/BallotAnswering.IsBallotLines', 'erd_canon/BallotAnswering.IsBallotsLine', 'erd_canon/BallotAnswering.IsBallotDifferenceLines',
         'erd_canon/BallotAnswering.IsBallotDifferencesLine', 'erd_canon/Preparing.IsPreparedAs', 'erd_canon/Preparing.AreStepsListed',
         'erd_canon/Preparing.IsPreparationTold']),
@@ -265,8 +266,8 @@ def lists():
                 if size and key.startswith(f'{crate}/'):
                     name = key.removeprefix(f'{crate}/')
                     sizes.append(f'{name.replace("declared.", "src/").replace(".", "/")} {size}')
-            if sizes:
-                lines.append(f'- {crate}: {", ".join(sizes)}')
+            # a line has at most so many files, as a sentence has words
+            lines += [f'- {crate}: {", ".join(sizes[at:at + MOST_IN_LINE])}' for at in range(0, len(sizes), MOST_IN_LINE)]
         before |= found
     return '\n'.join(lines[1:]) + '\n'
 

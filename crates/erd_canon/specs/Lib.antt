@@ -20,6 +20,7 @@ pub mod Engines  -- all that a run of each engine does to its devices
 pub mod Answering  -- what a run of an engine does to its devices that answers with one text
 pub mod Preparing  -- what the engines that prepare a report write, and what a run of them does to its devices
 pub mod BallotAnswering  -- what the engines for ballots write
+pub mod AskedCommands  -- what the engine for each command on one report, and on two reports, answers
 pub mod Statuses  -- exit statuses, and the words of faults
 pub mod Options  -- the options of a command, as words and as data
 pub mod ExactLines  -- the exact command lines

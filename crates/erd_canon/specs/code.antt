@@ -5,6 +5,5 @@ pub mod RefusalData  -- the JSON value of a refusal
 pub mod Pending  -- what moves from a buffer to a writer
 pub mod Fronts  -- the front of a list that a piece shows
 pub mod PrepareCommands  -- what the engine for each command that prepares a report answers
-pub mod AskedCommands  -- what the engine for each command on one report, and on two reports, answers
 pub mod BallotForms  -- in which form the ballots of reports are told
 pub mod ValuedTexts  -- the text of what each report has at a difference

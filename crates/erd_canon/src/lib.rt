@@ -21,8 +21,8 @@ pub use commands::steps::Steps;
 pub use commands::words::command_line;
 pub use data::ballot_pairs::{ballot_differences_data_with, ballots_beside_data_with};
 pub use data::ballots::{BallotsAsked, ballots_data_with};
-pub use data::check::{Answer, check_data, check_data_with};
-pub use data::compare::{compare_data, compare_data_with, differences_data, differences_data_with};
+pub use data::check::{Answer, check_data_with};
+pub use data::compare::{compare_data_with, differences_data_with};
 pub use data::laws::{pieces_are_the_list, pieces_are_the_text, pieces_go_on};
 pub use data::line::{LineAnswer, command_line_data};
 pub use data::piece::{Piece, PieceAnswer, Told};
@@ -38,12 +38,7 @@ pub use devices::read_from::ReadFrom;
 pub use devices::sink::{Sink, write_out};
 pub use devices::source::{Failed, MOST_BYTES, Source};
 pub use devices::write_to::WriteTo;
-pub use engines::answers::{
-    run_check_data, run_compare_data, run_differences, run_differences_data,
-};
-pub use engines::ballots::{
-    run_ballot_differences, run_ballot_differences_data, run_ballots, run_ballots_data,
-};
+pub use engines::asked::{PairCommand, ReportCommand, run_pair, run_report};
 pub use engines::outcome::{Outcome, RunFault};
 pub use engines::prepare::{run_prepare, run_prepare_list, run_prepare_report, steps_asked};
 pub use engines::runs::{

@@ -7,8 +7,10 @@ use Rattle.erd_canon.specs.declared.commands.request.Request.{Request}
 use Rattle.erd_canon.specs.declared.commands.request.Request.TheVariants.{Filter, Check, Canon, Compare, CheckData, CompareData, Differences, DifferencesData, Prepare, PrepareList, PrepareReport, Ballots, BallotsData, BallotDifferences, BallotDifferencesData}
 use Rattle.erd_program.specs.declared.commands.FileCommand.{FileCommand}
 use Rattle.erd_program.specs.declared.commands.FileCommand.TheVariants as file
-use Rattle.erd_program.specs.declared.commands.PairCommand.{PairCommand}
-use Rattle.erd_program.specs.declared.commands.PairCommand.TheVariants as pair
+use Rattle.erd_canon.specs.declared.engines.asked.PairCommand.TheVariants as asked_of_two
+use Rattle.erd_canon.specs.declared.engines.asked.ReportCommand.TheVariants as asked_of_one
+use Rattle.erd_program.specs.declared.commands.TwoFilesCommand.{TwoFilesCommand}
+use Rattle.erd_program.specs.declared.commands.TwoFilesCommand.TheVariants as pair
 use Rattle.erd_program.specs.declared.steps.StepsCommand.{StepsCommand}
 use Rattle.erd_program.specs.declared.steps.StepsCommand.TheVariants as steps
 use Rattle.erd_program.specs.declared.tasks.Task.{Task}
@@ -28,7 +30,7 @@ module _ {F File I O E : Type 0} (known : Outside F File I O E) (status : ℕ) (
       (subst (λ d. IsFileOpened known (run_of d prefer) n status world) f (subst (λ q. IsFileOpened known (run_of c q) n status world) g h))
 
   -- a command on two files
-  two_files : (l left r right : List ℕ) (c command : PairCommand) (p prefer : Option (List ℕ)) → l ≡ left → r ≡ right → c ≡ command → p ≡ prefer
+  two_files : (l left r right : List ℕ) (c command : TwoFilesCommand) (p prefer : Option (List ℕ)) → l ≡ left → r ≡ right → c ≡ command → p ≡ prefer
       → AreFilesOpened known (pair_run_of c p) l r status world → AreFilesOpened known (pair_run_of command prefer) left right status world
   two_files l left r right c command p prefer e d f g h =
       subst (λ m. AreFilesOpened known (pair_run_of command prefer) m right status world) e
@@ -47,20 +49,20 @@ module _ {F File I O E : Type 0} (known : Outside F File I O E) (status : ℕ) (
       → IsFileOpened known (run_of c (option_copied p)) n.now status world → IsDone known request status world
   one_done (Check name prefer) n c p is h = one_file n.now name c file.Check (option_copied p) prefer is.0 is.1 is.2 h
   one_done (Canon name prefer) n c p is h = one_file n.now name c file.Canon (option_copied p) prefer is.0 is.1 is.2 h
-  one_done (CheckData name prefer) n c p is h = one_file n.now name c file.CheckData (option_copied p) prefer is.0 is.1 is.2 h
-  one_done (Ballots name prefer) n c p is h = one_file n.now name c file.Ballots (option_copied p) prefer is.0 is.1 is.2 h
-  one_done (BallotsData name prefer) n c p is h = one_file n.now name c file.BallotsData (option_copied p) prefer is.0 is.1 is.2 h
+  one_done (CheckData name prefer) n c p is h = one_file n.now name c (file.Answer asked_of_one.CheckData) (option_copied p) prefer is.0 is.1 is.2 h
+  one_done (Ballots name prefer) n c p is h = one_file n.now name c (file.Answer asked_of_one.Ballots) (option_copied p) prefer is.0 is.1 is.2 h
+  one_done (BallotsData name prefer) n c p is h = one_file n.now name c (file.Answer asked_of_one.BallotsData) (option_copied p) prefer is.0 is.1 is.2 h
   one_done (PrepareList name) n c p is h = one_file n.now name c file.PrepareList (option_copied p) None is.0 is.1 is.2 h
   one_done _ n c p is h = absurd is
 
-  pub two_done : (request : Request) (l r : Bor (List ℕ)) (c : PairCommand) (p : Option (Bor (List ℕ))) → IsTaskOf request (task.TwoFiles l r c p)
+  pub two_done : (request : Request) (l r : Bor (List ℕ)) (c : TwoFilesCommand) (p : Option (Bor (List ℕ))) → IsTaskOf request (task.TwoFiles l r c p)
       → AreFilesOpened known (pair_run_of c (option_copied p)) l.now r.now status world → IsDone known request status world
   two_done (Compare left right prefer) l r c p is h = two_files l.now left r.now right c pair.Compare (option_copied p) prefer is.0 is.1 is.2 is.3 h
-  two_done (CompareData left right prefer) l r c p is h = two_files l.now left r.now right c pair.CompareData (option_copied p) prefer is.0 is.1 is.2 is.3 h
-  two_done (Differences left right prefer) l r c p is h = two_files l.now left r.now right c pair.Differences (option_copied p) prefer is.0 is.1 is.2 is.3 h
-  two_done (DifferencesData left right prefer) l r c p is h = two_files l.now left r.now right c pair.DifferencesData (option_copied p) prefer is.0 is.1 is.2 is.3 h
-  two_done (BallotDifferences left right prefer) l r c p is h = two_files l.now left r.now right c pair.BallotDifferences (option_copied p) prefer is.0 is.1 is.2 is.3 h
-  two_done (BallotDifferencesData left right prefer) l r c p is h = two_files l.now left r.now right c pair.BallotDifferencesData (option_copied p) prefer is.0 is.1 is.2 is.3 h
+  two_done (CompareData left right prefer) l r c p is h = two_files l.now left r.now right c (pair.Answer asked_of_two.CompareData) (option_copied p) prefer is.0 is.1 is.2 is.3 h
+  two_done (Differences left right prefer) l r c p is h = two_files l.now left r.now right c (pair.Answer asked_of_two.Differences) (option_copied p) prefer is.0 is.1 is.2 is.3 h
+  two_done (DifferencesData left right prefer) l r c p is h = two_files l.now left r.now right c (pair.Answer asked_of_two.DifferencesData) (option_copied p) prefer is.0 is.1 is.2 is.3 h
+  two_done (BallotDifferences left right prefer) l r c p is h = two_files l.now left r.now right c (pair.Answer asked_of_two.BallotDifferences) (option_copied p) prefer is.0 is.1 is.2 is.3 h
+  two_done (BallotDifferencesData left right prefer) l r c p is h = two_files l.now left r.now right c (pair.Answer asked_of_two.BallotDifferencesData) (option_copied p) prefer is.0 is.1 is.2 is.3 h
   two_done _ l r c p is h = absurd is
 
   pub steps_done : (request : Request) (n : Bor (List ℕ)) (c : StepsCommand) (w p : Option (Bor (List ℕ))) → IsTaskOf request (task.BySteps n c w p)

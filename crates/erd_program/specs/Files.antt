@@ -1,12 +1,14 @@
 -- What is done with standard input, or with the files that a request names.
 use Rattle.std.specs.Prelude.{◌≡◌, ◌⊎◌, ◌++◌, ◌∷◌, [], ℕ, List, None, Result, Ok, Err}
-use Rattle.erd_canon.specs.Answering.{IsCheckLine, IsCompareLine, IsListed, IsListLine, IsPairRun, IsReportRun}
-use Rattle.erd_canon.specs.BallotAnswering.{IsBallotDifferenceLines, IsBallotDifferencesLine, IsBallotLines, IsBallotsLine}
+use Rattle.erd_canon.specs.Answering.{IsPairRun, IsReportRun}
+use Rattle.erd_canon.specs.AskedCommands.{pair_answers, report_answers}
 use Rattle.erd_canon.specs.Preparing.{AreStepsListed, IsPreparationTold, IsPreparedAs, IsTextsRun}
 use Rattle.erd_prepare.specs.declared.step_name.StepName.{StepName}
 use Rattle.erd_canon.specs.Devices.{BeforeAfter, Writer, between}
 use Rattle.erd_canon.specs.Engines.{IsCanonRun, IsCheckRun, IsCompareRun}
 use Rattle.erd_meaning.specs.Keys.{Preference}
+use Rattle.erd_canon.specs.declared.engines.asked.PairCommand.{PairCommand}
+use Rattle.erd_canon.specs.declared.engines.asked.ReportCommand.{ReportCommand}
 use Rattle.erd_canon.specs.declared.engines.outcome.Outcome.{Outcome}
 use Rattle.erd_canon.specs.declared.engines.outcome.RunFault.{RunFault}
 use Rattle.erd_program.specs.declared.files.WorldFault.{WorldFault}
@@ -44,17 +46,9 @@ IsFileChecked prefer known answer file out err = IsCheckRun known.file known.out
 abbrev pub IsFileCanonicalised : {F File I O E : Type 0} → Preference → Outside F File I O E → Result Outcome RunFault → BeforeAfter File → BeforeAfter O → BeforeAfter E → Type 0
 IsFileCanonicalised prefer known answer file out err = IsCanonRun known.file known.out known.err prefer answer file out err
 
--- The engine checked the file under the preference, with JSON as the answer.
-abbrev pub IsFileCheckedAsData : {F File I O E : Type 0} → Preference → Outside F File I O E → Result Outcome RunFault → BeforeAfter File → BeforeAfter O → BeforeAfter E → Type 0
-IsFileCheckedAsData prefer known answer file out err = IsReportRun known.file known.out (IsCheckLine prefer) answer file out × (err.after ≡ err.before)
-
--- The engine listed the ballots of the file under the preference, a line each.
-abbrev pub AreBallotsListed : {F File I O E : Type 0} → Preference → Outside F File I O E → Result Outcome RunFault → BeforeAfter File → BeforeAfter O → BeforeAfter E → Type 0
-AreBallotsListed prefer known answer file out err = IsReportRun known.file known.out (IsBallotLines prefer) answer file out × (err.after ≡ err.before)
-
--- The engine listed the ballots of the file under the preference, with JSON as the answer.
-abbrev pub AreBallotsListedAsData : {F File I O E : Type 0} → Preference → Outside F File I O E → Result Outcome RunFault → BeforeAfter File → BeforeAfter O → BeforeAfter E → Type 0
-AreBallotsListedAsData prefer known answer file out err = IsReportRun known.file known.out (IsBallotsLine prefer) answer file out × (err.after ≡ err.before)
+-- The engine answered about the file under the preference, with one text.
+abbrev pub IsFileAnswered : {F File I O E : Type 0} → ReportCommand → Preference → Outside F File I O E → Result Outcome RunFault → BeforeAfter File → BeforeAfter O → BeforeAfter E → Type 0
+IsFileAnswered command prefer known answer file out err = IsReportRun known.file known.out (report_answers command prefer) answer file out × (err.after ≡ err.before)
 
 -- The engine prepared the file by the chosen steps, and judged what came of it under the preference.
 abbrev pub IsFilePrepared : {F File I O E : Type 0} → Preference → List StepName → Outside F File I O E → Result Outcome RunFault → BeforeAfter File → BeforeAfter O → BeforeAfter E → Type 0
@@ -82,25 +76,9 @@ pub record IsFileDone {F File I O E : Type 0} (known : Outside F File I O E) (Ru
 abbrev pub AreFilesCompared : {F File I O E : Type 0} → Preference → Outside F File I O E → Result Outcome RunFault → BeforeAfter File → BeforeAfter File → BeforeAfter O → Type 0
 AreFilesCompared prefer known answer left right out = IsCompareRun known.file known.file known.out prefer answer left right out
 
--- The engine compared the two files under the preference, with JSON as the answer.
-abbrev pub AreFilesComparedAsData : {F File I O E : Type 0} → Preference → Outside F File I O E → Result Outcome RunFault → BeforeAfter File → BeforeAfter File → BeforeAfter O → Type 0
-AreFilesComparedAsData prefer known answer left right out = IsPairRun known.file known.file known.out (IsCompareLine prefer) answer left right out
-
--- The engine listed the differences of the two files under the preference, a line each.
-abbrev pub AreFilesListed : {F File I O E : Type 0} → Preference → Outside F File I O E → Result Outcome RunFault → BeforeAfter File → BeforeAfter File → BeforeAfter O → Type 0
-AreFilesListed prefer known answer left right out = IsPairRun known.file known.file known.out (IsListed prefer) answer left right out
-
--- The engine listed the differences of the two files under the preference, with JSON as the answer.
-abbrev pub AreFilesListedAsData : {F File I O E : Type 0} → Preference → Outside F File I O E → Result Outcome RunFault → BeforeAfter File → BeforeAfter File → BeforeAfter O → Type 0
-AreFilesListedAsData prefer known answer left right out = IsPairRun known.file known.file known.out (IsListLine prefer) answer left right out
-
--- The engine listed the ballots on which the two files differ under the preference, a line each.
-abbrev pub AreBallotsCompared : {F File I O E : Type 0} → Preference → Outside F File I O E → Result Outcome RunFault → BeforeAfter File → BeforeAfter File → BeforeAfter O → Type 0
-AreBallotsCompared prefer known answer left right out = IsPairRun known.file known.file known.out (IsBallotDifferenceLines prefer) answer left right out
-
--- The engine listed the ballots on which the two files differ under the preference, with JSON as the answer.
-abbrev pub AreBallotsComparedAsData : {F File I O E : Type 0} → Preference → Outside F File I O E → Result Outcome RunFault → BeforeAfter File → BeforeAfter File → BeforeAfter O → Type 0
-AreBallotsComparedAsData prefer known answer left right out = IsPairRun known.file known.file known.out (IsBallotDifferencesLine prefer) answer left right out
+-- The engine answered about the two files under the preference, with one text.
+abbrev pub AreFilesAnswered : {F File I O E : Type 0} → PairCommand → Preference → Outside F File I O E → Result Outcome RunFault → BeforeAfter File → BeforeAfter File → BeforeAfter O → Type 0
+AreFilesAnswered command prefer known answer left right out = IsPairRun known.file known.file known.out (pair_answers command prefer) answer left right out
 
 -- The engine ran on the two files, and they were closed as the engine left them. The program ended with the answer.
 pub record AreFilesDone {F File I O E : Type 0} (known : Outside F File I O E) (Run : Outside F File I O E → Result Outcome RunFault → BeforeAfter File → BeforeAfter File → BeforeAfter O → Type 0) (left_name right_name : List ℕ) (left right : File) (status : ℕ) (closed : BeforeAfter (List (List ℕ × File))) (out : BeforeAfter O) (err : BeforeAfter E) : Type 0 where

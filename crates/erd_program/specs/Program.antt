@@ -6,6 +6,8 @@ use Rattle.erd_canon.specs.declared.commands.request.Request.{Request}
 use Rattle.erd_canon.specs.declared.commands.request.Request.TheVariants.{Filter, Check, Canon, Compare, CheckData, CompareData, Differences, DifferencesData, Prepare, PrepareList, PrepareReport, Ballots, BallotsData, BallotDifferences, BallotDifferencesData}
 use Rattle.erd_canon.specs.declared.commands.request.LineFault.{LineFault}
 use Rattle.erd_canon.specs.declared.commands.request.LineFault.TheVariants as line
+use Rattle.erd_canon.specs.declared.engines.asked.PairCommand.TheVariants as asked_of_two
+use Rattle.erd_canon.specs.declared.engines.asked.ReportCommand.TheVariants as asked_of_one
 use Rattle.erd_canon.specs.declared.engines.outcome.Outcome.{Outcome}
 use Rattle.erd_canon.specs.declared.engines.outcome.RunFault.{RunFault}
 use Rattle.erd_canon.specs.declared.engines.outcome.RunFault.TheVariants as run
@@ -16,7 +18,7 @@ use Rattle.erd_program.specs.declared.files.WorldFault.{WorldFault}
 use Rattle.erd_program.specs.declared.files.WorldFault.TheVariants.{Memory, Refused}
 use Rattle.erd_program.specs.declared.world.World.{World}
 use Rattle.erd_prepare.specs.declared.step_name.StepName.{StepName}
-use Rattle.erd_program.specs.Files.{AreBallotsCompared, AreBallotsComparedAsData, AreBallotsListed, AreBallotsListedAsData, AreFilesCompared, AreFilesComparedAsData, AreFilesListed, AreFilesListedAsData, IsEachStepTried, IsFileAnswer, IsFileCanonicalised, IsFileChecked, IsFileCheckedAsData, IsFilePrepared, IsInputCanonicalised, IsPairAnswer, IsPreparationReported, IsRefused}
+use Rattle.erd_program.specs.Files.{AreFilesAnswered, AreFilesCompared, IsEachStepTried, IsFileAnswer, IsFileAnswered, IsFileCanonicalised, IsFileChecked, IsFilePrepared, IsInputCanonicalised, IsPairAnswer, IsPreparationReported, IsRefused}
 use Rattle.erd_program.specs.Messages.{IsSaid, fault_text}
 use Rattle.erd_program.specs.World.{Outside}
 
@@ -66,17 +68,17 @@ IsDone known Filter status world =
 IsDone known (Check name prefer) status world = IsFileOpened known (IsFileChecked prefer) name status world
 IsDone known (Canon name prefer) status world = IsFileOpened known (IsFileCanonicalised prefer) name status world
 IsDone known (Compare left right prefer) status world = AreFilesOpened known (AreFilesCompared prefer) left right status world
-IsDone known (CheckData name prefer) status world = IsFileOpened known (IsFileCheckedAsData prefer) name status world
-IsDone known (CompareData left right prefer) status world = AreFilesOpened known (AreFilesComparedAsData prefer) left right status world
-IsDone known (Differences left right prefer) status world = AreFilesOpened known (AreFilesListed prefer) left right status world
-IsDone known (DifferencesData left right prefer) status world = AreFilesOpened known (AreFilesListedAsData prefer) left right status world
+IsDone known (CheckData name prefer) status world = IsFileOpened known (IsFileAnswered asked_of_one.CheckData prefer) name status world
+IsDone known (CompareData left right prefer) status world = AreFilesOpened known (AreFilesAnswered asked_of_two.CompareData prefer) left right status world
+IsDone known (Differences left right prefer) status world = AreFilesOpened known (AreFilesAnswered asked_of_two.Differences prefer) left right status world
+IsDone known (DifferencesData left right prefer) status world = AreFilesOpened known (AreFilesAnswered asked_of_two.DifferencesData prefer) left right status world
 IsDone known (Prepare name words prefer) status world = IsDoneBySteps known words (IsFilePrepared prefer) name status world
 IsDone known (PrepareList name) status world = IsFileOpened known IsEachStepTried name status world
 IsDone known (PrepareReport name words) status world = IsDoneBySteps known words IsPreparationReported name status world
-IsDone known (Ballots name prefer) status world = IsFileOpened known (AreBallotsListed prefer) name status world
-IsDone known (BallotsData name prefer) status world = IsFileOpened known (AreBallotsListedAsData prefer) name status world
-IsDone known (BallotDifferences left right prefer) status world = AreFilesOpened known (AreBallotsCompared prefer) left right status world
-IsDone known (BallotDifferencesData left right prefer) status world = AreFilesOpened known (AreBallotsComparedAsData prefer) left right status world
+IsDone known (Ballots name prefer) status world = IsFileOpened known (IsFileAnswered asked_of_one.Ballots prefer) name status world
+IsDone known (BallotsData name prefer) status world = IsFileOpened known (IsFileAnswered asked_of_one.BallotsData prefer) name status world
+IsDone known (BallotDifferences left right prefer) status world = AreFilesOpened known (AreFilesAnswered asked_of_two.BallotDifferences prefer) left right status world
+IsDone known (BallotDifferencesData left right prefer) status world = AreFilesOpened known (AreFilesAnswered asked_of_two.BallotDifferencesData prefer) left right status world
 
 -- The text of the help was written and flushed, with status 0. Or else that failed: a first part of it was written, and
 -- `write failed` to standard error, with status 3.

@@ -9,10 +9,9 @@ use crate::files::{Files, WorldFault};
 use crate::messages::{ended, not_opened};
 use crate::world::World;
 use erd_canon::{
-    Disposal, FileName, Outcome, RunFault, Sink, Source, run_ballot_differences,
-    run_ballot_differences_data, run_ballots, run_ballots_data, run_canon_disposing,
-    run_check_data, run_check_disposing, run_compare_data, run_compare_disposing, run_differences,
-    run_differences_data, run_prepare, run_prepare_list, run_prepare_report,
+    Disposal, FileName, Outcome, PairCommand, ReportCommand, RunFault, Sink, Source,
+    run_canon_disposing, run_check_disposing, run_compare_disposing, run_pair, run_prepare,
+    run_prepare_list, run_prepare_report, run_report,
 };
 use erd_prepare::StepName;
 use std::alloc::Global;
@@ -22,9 +21,7 @@ use std::alloc::Global;
 pub(crate) enum FileCommand<'a> {
     Check,
     Canon,
-    CheckData,
-    Ballots,
-    BallotsData,
+    Answer(ReportCommand),
     Prepare(&'a [StepName]),
     PrepareList,
     PrepareReport(&'a [StepName]),
@@ -32,13 +29,9 @@ pub(crate) enum FileCommand<'a> {
 
 /// A command that names two files.
 #[derive(Clone, Copy)]
-pub(crate) enum PairCommand {
+pub(crate) enum TwoFilesCommand {
     Compare,
-    CompareData,
-    Differences,
-    DifferencesData,
-    BallotDifferences,
-    BallotDifferencesData,
+    Answer(PairCommand),
 }
 
 /// Writes the canonical form of standard input, with no preference.
@@ -126,9 +119,7 @@ fn run<F: Files, I: Source, O: Sink, E: Sink, D: Disposal>(
     match command {
         FileCommand::Check => run_check_disposing(alloc, file, out, prefer, disposal),
         FileCommand::Canon => run_canon_disposing(alloc, file, out, err, prefer, disposal),
-        FileCommand::CheckData => run_check_data(alloc, file, out, prefer),
-        FileCommand::Ballots => run_ballots(alloc, file, out, prefer),
-        FileCommand::BallotsData => run_ballots_data(alloc, file, out, prefer),
+        FileCommand::Answer(asked) => run_report(alloc, file, out, asked, prefer),
         FileCommand::Prepare(chosen) => run_prepare(alloc, file, out, err, chosen, prefer),
         FileCommand::PrepareList => run_prepare_list(alloc, file, out, err),
         FileCommand::PrepareReport(chosen) => run_prepare_report(alloc, file, out, err, chosen),
@@ -140,7 +131,7 @@ pub(crate) fn two_files<F: Files, I: Source, O: Sink, E: Sink, D: Disposal>(
     alloc: Global,
     world: &mut World<F, I, O, E>,
     names: (&FileName, &FileName),
-    command: PairCommand,
+    command: TwoFilesCommand,
     prefer: Option<&str>,
     disposal: &D,
 ) -> u8
@@ -189,7 +180,7 @@ fn open_files<F: Files, I: Source, O: Sink, E: Sink, D: Disposal>(
     alloc: Global,
     world: &mut World<F, I, O, E>,
     named: ((&FileName, F::File), (&FileName, F::File)),
-    command: PairCommand,
+    command: TwoFilesCommand,
     prefer: Option<&str>,
     disposal: &D,
 ) -> u8
@@ -205,7 +196,7 @@ fn open_files<F: Files, I: Source, O: Sink, E: Sink, D: Disposal>(
         (between world.old.err world.new.err) }
 {
     let ((left_name, mut left_file), (right_name, mut right_file)) = named;
-    let answer = run_pair(
+    let answer = run_both(
         alloc,
         &mut left_file,
         &mut right_file,
@@ -219,12 +210,12 @@ fn open_files<F: Files, I: Source, O: Sink, E: Sink, D: Disposal>(
 }
 
 // Runs the engine on the files.
-fn run_pair<S: Source, O: Sink, D: Disposal>(
+fn run_both<S: Source, O: Sink, D: Disposal>(
     alloc: Global,
     left: &mut S,
     right: &mut S,
     out: &mut O,
-    asked: (PairCommand, Option<&str>),
+    asked: (TwoFilesCommand, Option<&str>),
     disposal: &D,
 ) -> Result<Outcome, RunFault>
     requires left_works { S.reader.has_failed left.old ≡ false }
@@ -235,13 +226,9 @@ fn run_pair<S: Source, O: Sink, D: Disposal>(
 {
     let (command, prefer) = asked;
     match command {
-        PairCommand::Compare => run_compare_disposing(alloc, left, right, out, prefer, disposal),
-        PairCommand::CompareData => run_compare_data(alloc, left, right, out, prefer),
-        PairCommand::Differences => run_differences(alloc, left, right, out, prefer),
-        PairCommand::DifferencesData => run_differences_data(alloc, left, right, out, prefer),
-        PairCommand::BallotDifferences => run_ballot_differences(alloc, left, right, out, prefer),
-        PairCommand::BallotDifferencesData => {
-            run_ballot_differences_data(alloc, left, right, out, prefer)
+        TwoFilesCommand::Compare => {
+            run_compare_disposing(alloc, left, right, out, prefer, disposal)
         }
+        TwoFilesCommand::Answer(asked) => run_pair(alloc, left, right, out, asked, prefer),
     }
 }

@@ -1,4 +1,4 @@
-ghost use Rattle.std.specs.Prelude.{◌≡◌, [], string_bytes, IfOk, None, option_copied};
+ghost use Rattle.std.specs.Prelude.{◌≡◌, [], string_bytes, IfOk, option_copied};
 ghost use Rattle.erd_canon.specs.Words.{IsCheckedData, IsDataText, faults_data};
 ghost use Rattle.erd_canon.specs.code.RefusalData.{AnswersData, TellsRefusalAs};
 
@@ -18,26 +18,6 @@ pub struct Answer {
     pub text: String,
 }
 
-/// Checks the bytes of a report, as `check_data_with` does with no preference.
-///
-/// # Errors
-///
-/// `AllocError` if out of memory.
-///
-/// ```
-/// let answer = check_data(alloc, BARE.as_bytes())?;
-/// assert_eq!(rt; answer.outcome.status(), 1);
-/// assert_eq!(rt;
-///     answer.text.as_str(),
-///     r#"[{"name":"Election","place":[],"reason":2},{"name":"Status","place":[],"reason":2}]"#
-/// );
-/// ```
-pub fn check_data(alloc: Global, bytes: &[u8]) -> Result<Answer, AllocError>
-    ensures { IfOk result (λ answer. IsCheckedData None bytes.now answer.outcome (string_bytes answer.text)) }
-{
-    check_data_with(alloc, bytes, None)
-}
-
 /// Checks the bytes of a report under a preferred type of identifier, or under none, and answers with a JSON text.
 ///
 /// The text is an empty array if the report is accepted, an array with an object for each fault, in the order of the faults, or
@@ -48,8 +28,12 @@ pub fn check_data(alloc: Global, bytes: &[u8]) -> Result<Answer, AllocError>
 /// `AllocError` if out of memory.
 ///
 /// ```
-/// let answer = check_data_with(alloc, one, Some("fips"))?;
-/// assert_eq!(rt; answer.text.as_str(), "[]");
+/// let answer = check_data_with(alloc, BARE.as_bytes(), None)?;
+/// assert_eq!(rt; answer.outcome.status(), 1);
+/// assert_eq!(rt;
+///     answer.text.as_str(),
+///     r#"[{"name":"Election","place":[],"reason":2},{"name":"Status","place":[],"reason":2}]"#
+/// );
 /// ```
 pub fn check_data_with(
     alloc: Global,

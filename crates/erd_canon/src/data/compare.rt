@@ -1,4 +1,4 @@
-ghost use Rattle.std.specs.Prelude.{◌≡◌, ◌++◌, string_bytes, IfOk, None, OnOk, option_copied};
+ghost use Rattle.std.specs.Prelude.{◌≡◌, ◌++◌, string_bytes, IfOk, OnOk, option_copied};
 ghost use Rattle.erd_canon.specs.Words.{compact_text, IsComparedData, IsDataText, IsListedData, comparison_data, comparison_outcome, differences_data, listing_outcome};
 ghost use Rattle.erd_canon.specs.code.RefusalData.{AnswersData, NamesSide, TellsRefusalAs, TellsSideAs};
 
@@ -13,25 +13,6 @@ use erd_compare::{DetailedDifference, Difference};
 use serde_json::Value;
 use std::alloc::{AllocError, Global};
 
-/// Compares the bytes of two reports, as `compare_data_with` does with no preference.
-///
-/// # Errors
-///
-/// `AllocError` if out of memory.
-///
-/// ```
-/// let answer = compare_data(alloc, one, other)?;
-/// assert_eq!(rt;
-///     answer.text.as_str(),
-///     r#"{"how":"member","key":null,"member":"Name","part":"election"}"#
-/// );
-/// ```
-pub fn compare_data(alloc: Global, left: &[u8], right: &[u8]) -> Result<Answer, AllocError>
-    ensures { IfOk result (λ answer. IsComparedData None left.now right.now answer.outcome (string_bytes answer.text)) }
-{
-    compare_data_with(alloc, left, right, None)
-}
-
 /// Compares the bytes of two reports under a preferred type of identifier, or under none, and answers with a JSON text.
 ///
 /// The text is `null` if the reports mean the same, or an object for their first difference. If the left report is refused, or
@@ -43,8 +24,11 @@ pub fn compare_data(alloc: Global, left: &[u8], right: &[u8]) -> Result<Answer, 
 /// `AllocError` if out of memory.
 ///
 /// ```
-/// let answer = compare_data_with(alloc, one, one, Some("fips"))?;
-/// assert_eq!(rt; answer.text.as_str(), "null");
+/// let answer = compare_data_with(alloc, one, other, None)?;
+/// assert_eq!(rt;
+///     answer.text.as_str(),
+///     r#"{"how":"member","key":null,"member":"Name","part":"election"}"#
+/// );
 /// ```
 pub fn compare_data_with(
     alloc: Global,
@@ -100,25 +84,6 @@ fn named(alloc: Global, side: &str, refusal: &Refusal) -> Result<Answer, AllocEr
     Ok(Answer { outcome, text })
 }
 
-/// Lists the differences of two reports, as `differences_data_with` does with no preference.
-///
-/// # Errors
-///
-/// `AllocError` if out of memory.
-///
-/// ```
-/// let answer = differences_data(alloc, one, other)?;
-/// assert_eq!(rt;
-///     answer.text.as_str(),
-///     r#"[{"how":"member","key":null,"member":"Name","part":"election"}]"#
-/// );
-/// ```
-pub fn differences_data(alloc: Global, left: &[u8], right: &[u8]) -> Result<Answer, AllocError>
-    ensures { IfOk result (λ answer. IsListedData None left.now right.now answer.outcome (string_bytes answer.text)) }
-{
-    differences_data_with(alloc, left, right, None)
-}
-
 /// Lists the differences of the bytes of two reports under a preferred type of identifier, or under none, and answers with a
 /// JSON text.
 ///
@@ -135,8 +100,11 @@ pub fn differences_data(alloc: Global, left: &[u8], right: &[u8]) -> Result<Answ
 /// `AllocError` if out of memory.
 ///
 /// ```
-/// let answer = differences_data_with(alloc, one, one, Some("fips"))?;
-/// assert_eq!(rt; answer.text.as_str(), "[]");
+/// let answer = differences_data_with(alloc, one, other, None)?;
+/// assert_eq!(rt;
+///     answer.text.as_str(),
+///     r#"[{"how":"member","key":null,"member":"Name","part":"election"}]"#
+/// );
 /// ```
 pub fn differences_data_with(
     alloc: Global,

@@ -1,7 +1,7 @@
-//! The engines that answer with one text, which is in memory as a whole before it is written.
+//! What the engines that answer with one text write: it is in memory as a whole before.
 
 ghost use Rattle.std.specs.Prelude.{◌≡◌, ◌⊎◌, false, true, map, string_bytes, Err, IfErr, IfOk, OnOk, option_copied};
-ghost use Rattle.erd_canon.specs.Words.{between, difference_line, listing_lines, listing_outcome, text_of_lines, Appends, IsCheckLine, IsCompareLine, IsListed, IsListLine, IsPairPartWritten, IsPairRun, IsPairWritten, IsPartWritten, IsReportPartWritten, IsReportRun, IsReportWritten};
+ghost use Rattle.erd_canon.specs.Words.{difference_line, listing_lines, listing_outcome, text_of_lines, Appends, IsCheckLine, IsCompareLine, IsListed, IsListLine, IsPairPartWritten, IsPairWritten, IsPartWritten, IsReportPartWritten, IsReportWritten};
 
 use crate::bytes::differences::differences_of;
 use crate::bytes::refusal::Side;
@@ -9,43 +9,11 @@ use crate::data::check::check_data_with;
 use crate::data::compare::{compare_data_with, differences_data_with, outcome_of};
 use crate::data::listed::push_entry_line;
 use crate::devices::sink::Sink;
-use crate::devices::source::Source;
-use crate::engines::asked::{PairCommand, ReportCommand, run_pair, run_report, write_line};
+use crate::engines::asked::write_line;
 use crate::engines::outcome::{Outcome, RunFault};
 use crate::engines::write_and_flush::{write_one, write_refusal};
 use erd_compare::DetailedDifference;
 use std::alloc::{AllocError, Global};
-
-/// Reads a report to its end, checks it under a preferred type of identifier, or under none, writes the answer to `out` as
-/// JSON, and flushes `out`.
-///
-/// It writes the text that `check_data_with` answers, and one line feed. The text is in memory as a whole before anything is
-/// written. A report may have at most 67,108,864 bytes. The devices must not have failed before the call. After a failure, the
-/// run reads, writes and flushes nothing more.
-///
-/// # Errors
-///
-/// - `RunFault::Read` if and only if a read failed.
-/// - `RunFault::Write` if and only if a write or a flush failed.
-/// - `RunFault::TooLong` if a reader gave more than 67,108,864 bytes.
-/// - `RunFault::Memory` if out of memory.
-///
-/// ```
-/// assert_eq!(rt; run_check_data(alloc, &mut reader, &mut out, prefer)?, Outcome::Good);
-/// assert_eq!(rt; out.writer.as_slice(), "[]\n".as_bytes());
-/// ```
-pub fn run_check_data<S: Source, O: Sink>(
-    alloc: Global,
-    reader: &mut S,
-    out: &mut O,
-    prefer: Option<&str>,
-) -> Result<Outcome, RunFault>
-    requires reader_works { S.reader.has_failed reader.old ≡ false }
-    requires out_works { O.writer.has_failed out.old ≡ false }
-    ensures { IsReportRun S.reader O.writer (IsCheckLine (option_copied prefer.entry)) result (between reader.old reader.new) (between out.old out.new) }
-{
-    run_report(alloc, reader, out, ReportCommand::CheckData, prefer)
-}
 
 /// Checks the bytes and writes the answer as JSON.
 pub(crate) fn write_check_data<O: Sink>(
@@ -67,107 +35,6 @@ pub(crate) fn write_check_data<O: Sink>(
         Ok(answer) => write_line(answer, out),
         Err(_) => Err(RunFault::Memory),
     }
-}
-
-/// Reads two reports to their ends, first the left report and then the right one, compares them under a preferred type of
-/// identifier, or under none, writes the answer to `out` as JSON, and flushes `out`.
-///
-/// It writes the text that `compare_data_with` answers, and one line feed. The text is in memory as a whole before anything is
-/// written. A report may have at most 67,108,864 bytes. The devices must not have failed before the call. After a failure, the
-/// run reads, writes and flushes nothing more.
-///
-/// # Errors
-///
-/// As `run_check_data`.
-///
-/// ```
-/// assert_eq!(rt; run_compare_data(alloc, &mut left, &mut right, &mut out, prefer)?, Outcome::Good);
-/// assert_eq!(rt; out.writer.as_slice(), "null\n".as_bytes());
-/// ```
-pub fn run_compare_data<S: Source, T: Source, O: Sink>(
-    alloc: Global,
-    left: &mut S,
-    right: &mut T,
-    out: &mut O,
-    prefer: Option<&str>,
-) -> Result<Outcome, RunFault>
-    requires left_works { S.reader.has_failed left.old ≡ false }
-    requires right_works { T.reader.has_failed right.old ≡ false }
-    requires out_works { O.writer.has_failed out.old ≡ false }
-    ensures { IsPairRun S.reader T.reader O.writer (IsCompareLine (option_copied prefer.entry)) result
-        (between left.old left.new) (between right.old right.new) (between out.old out.new) }
-{
-    run_pair(alloc, left, right, out, PairCommand::CompareData, prefer)
-}
-
-/// Reads two reports to their ends, first the left report and then the right one, lists all differences in what they mean under a
-/// preferred type of identifier, or under none, writes them to `out`, and flushes `out`.
-///
-/// It writes `same`, or a line for each difference, in rising order. If the left report is refused, or else if the right one
-/// is, it writes what `run_compare_with` writes. The lines of the differences are in memory as a whole before anything is
-/// written. A report may have at most 67,108,864 bytes. The devices must not have failed before the call. After a failure, the
-/// run reads, writes and flushes nothing more.
-///
-/// # Errors
-///
-/// As `run_check_data`.
-///
-/// ```
-/// assert_eq!(rt; run_differences(alloc, &mut left, &mut right, &mut out, prefer)?, Outcome::Bad);
-/// assert_eq!(rt; out.writer.as_slice(), "election: member \"Name\"\n".as_bytes());
-/// ```
-pub fn run_differences<S: Source, T: Source, O: Sink>(
-    alloc: Global,
-    left: &mut S,
-    right: &mut T,
-    out: &mut O,
-    prefer: Option<&str>,
-) -> Result<Outcome, RunFault>
-    requires left_works { S.reader.has_failed left.old ≡ false }
-    requires right_works { T.reader.has_failed right.old ≡ false }
-    requires out_works { O.writer.has_failed out.old ≡ false }
-    ensures { IsPairRun S.reader T.reader O.writer (IsListed (option_copied prefer.entry)) result
-        (between left.old left.new) (between right.old right.new) (between out.old out.new) }
-{
-    run_pair(alloc, left, right, out, PairCommand::Differences, prefer)
-}
-
-/// Reads two reports to their ends, first the left report and then the right one, lists all differences in what they mean under a
-/// preferred type of identifier, or under none, writes the answer to `out` as JSON, and flushes `out`.
-///
-/// It writes the text that `differences_data_with` answers, and one line feed. The text is in memory as a whole before anything
-/// is written. A report may have at most 67,108,864 bytes. The devices must not have failed before the call. After a failure,
-/// the run reads, writes and flushes nothing more.
-///
-/// # Errors
-///
-/// As `run_check_data`.
-///
-/// ```
-/// assert_eq!(rt; run_differences_data(alloc, &mut left, &mut right, &mut out, prefer)?, Outcome::Good);
-/// assert_eq!(rt; out.writer.as_slice(), "[]\n".as_bytes());
-/// ```
-pub fn run_differences_data<S: Source, T: Source, O: Sink>(
-    alloc: Global,
-    left: &mut S,
-    right: &mut T,
-    out: &mut O,
-    prefer: Option<&str>,
-) -> Result<Outcome, RunFault>
-    requires left_works { S.reader.has_failed left.old ≡ false }
-    requires right_works { T.reader.has_failed right.old ≡ false }
-    requires out_works { O.writer.has_failed out.old ≡ false }
-    ensures { IsPairRun S.reader T.reader O.writer (IsListLine (option_copied prefer.entry)) result
-        (between left.old left.new) (between right.old right.new) (between out.old out.new) }
-{
-    run_pair(
-        alloc,
-        left,
-        right,
-        out,
-        PairCommand::DifferencesData,
-        prefer,
-    )
 }
 
 /// Compares the bytes of two reports and writes the answer as JSON.

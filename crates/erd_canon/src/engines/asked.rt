@@ -1,8 +1,8 @@
-//! The commands that answer with one text: what is read for each, and what is written.
+//! The engines that answer with one text: what is read for each command, and what is written.
 
 ghost use Rattle.std.specs.Prelude.{◌≡◌, ◌⊎◌, ◌∷◌, ◌++◌, [], false, true, string_bytes, Err, IfErr, IfOk, OnOk, option_copied};
 ghost use Rattle.erd_canon.specs.Words.{between, Appends, IsPairPartWritten, IsPairRun, IsPairWritten, IsPartWritten, IsReportPartWritten, IsReportRun, IsReportWritten};
-ghost use Rattle.erd_canon.specs.code.AskedCommands.{pair_answers, report_answers};
+ghost use Rattle.erd_canon.specs.AskedCommands.{pair_answers, report_answers};
 
 use crate::data::check::Answer;
 use crate::devices::sink::Sink;
@@ -17,26 +17,62 @@ use crate::engines::outcome::{Outcome, RunFault};
 use crate::engines::write_and_flush::write_one;
 use std::alloc::Global;
 
-/// A command on one report that answers with one text.
-#[derive(Clone, Copy)]
-pub(crate) enum ReportCommand {
+/// A command on one report that answers with one text. What is JSON stands on one line, with a line feed at its end.
+///
+/// ```
+/// let command = ReportCommand::Ballots;
+/// ```
+#[derive(Clone, Copy, Debug)]
+pub enum ReportCommand {
+    /// Whether the report is accepted, as JSON: the text that `check_data_with` answers.
     CheckData,
+    /// A line for each ballot of an accepted report, or else what `run_check_with` writes.
     Ballots,
+    /// The ballots as JSON: the text that `ballots_data_with` answers for `BallotsAsked::Heads`.
     BallotsData,
 }
 
-/// A command on two reports that answers with one text.
-#[derive(Clone, Copy)]
-pub(crate) enum PairCommand {
+/// A command on two reports that answers with one text. What is JSON stands on one line, with a line feed at its end. If the left
+/// report is refused, or else if the right one is, lines are those that `run_compare_with` writes.
+///
+/// ```
+/// let command = PairCommand::Differences;
+/// ```
+#[derive(Clone, Copy, Debug)]
+pub enum PairCommand {
+    /// The first difference as JSON: the text that `compare_data_with` answers.
     CompareData,
+    /// The line `same`, or a line for each difference in what the reports mean, in rising order.
     Differences,
+    /// All differences as JSON: the text that `differences_data_with` answers.
     DifferencesData,
+    /// The line `same ballots`, or a line for each style whose ballots are not the same, in the order of
+    /// `erd_shown::differing_ballots`.
     BallotDifferences,
+    /// The same as JSON: the text that `ballot_differences_data_with` answers.
     BallotDifferencesData,
 }
 
-/// Reads the report and writes what the command answers.
-pub(crate) fn run_report<S: Source, O: Sink>(
+/// Reads a report to its end, writes to `out` what the command answers under a preferred type of identifier, or under none, and
+/// flushes `out`.
+///
+/// The answer is in memory as a whole before anything is written, but for the lines of faults. A report may have at most
+/// 67,108,864 bytes. The devices must not have failed before the call. After a failure, the run reads, writes and flushes
+/// nothing more.
+///
+/// # Errors
+///
+/// - `RunFault::Read` if and only if a read failed.
+/// - `RunFault::Write` if and only if a write or a flush failed.
+/// - `RunFault::TooLong` if a reader gave more than 67,108,864 bytes.
+/// - `RunFault::Memory` if out of memory.
+///
+/// ```
+/// let command = ReportCommand::CheckData;
+/// assert_eq!(rt; run_report(alloc, &mut reader, &mut out, command, prefer)?, Outcome::Good);
+/// assert_eq!(rt; out.writer.as_slice(), "[]\n".as_bytes());
+/// ```
+pub fn run_report<S: Source, O: Sink>(
     alloc: Global,
     reader: &mut S,
     out: &mut O,
@@ -75,8 +111,21 @@ fn write_report<O: Sink>(
     }
 }
 
-/// Reads both reports and writes what the command answers.
-pub(crate) fn run_pair<S: Source, T: Source, O: Sink>(
+/// Reads two reports to their ends, first the left report and then the right one, writes to `out` what the command answers under
+/// a preferred type of identifier, or under none, and flushes `out`.
+///
+/// It keeps to what `run_report` says of memory, of long reports and of failures.
+///
+/// # Errors
+///
+/// As `run_report`.
+///
+/// ```
+/// let command = PairCommand::Differences;
+/// assert_eq!(rt; run_pair(alloc, &mut left, &mut right, &mut out, command, prefer)?, Outcome::Bad);
+/// assert_eq!(rt; out.writer.as_slice(), "election: member \"Name\"\n".as_bytes());
+/// ```
+pub fn run_pair<S: Source, T: Source, O: Sink>(
     alloc: Global,
     left: &mut S,
     right: &mut T,

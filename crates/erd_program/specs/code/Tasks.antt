@@ -4,8 +4,10 @@ use Rattle.erd_canon.specs.declared.commands.request.Request.{Request}
 use Rattle.erd_canon.specs.declared.commands.request.Request.TheVariants.{Filter, Check, Canon, Compare, CheckData, CompareData, Differences, DifferencesData, Prepare, PrepareList, PrepareReport, Ballots, BallotsData, BallotDifferences, BallotDifferencesData}
 use Rattle.erd_program.specs.declared.commands.FileCommand.{FileCommand}
 use Rattle.erd_program.specs.declared.commands.FileCommand.TheVariants as file
-use Rattle.erd_program.specs.declared.commands.PairCommand.{PairCommand}
-use Rattle.erd_program.specs.declared.commands.PairCommand.TheVariants as pair
+use Rattle.erd_canon.specs.declared.engines.asked.PairCommand.TheVariants as asked_of_two
+use Rattle.erd_canon.specs.declared.engines.asked.ReportCommand.TheVariants as asked_of_one
+use Rattle.erd_program.specs.declared.commands.TwoFilesCommand.{TwoFilesCommand}
+use Rattle.erd_program.specs.declared.commands.TwoFilesCommand.TheVariants as pair
 use Rattle.erd_program.specs.declared.steps.StepsCommand.{StepsCommand}
 use Rattle.erd_program.specs.declared.steps.StepsCommand.TheVariants as steps
 use Rattle.erd_program.specs.declared.tasks.Task.{Task}
@@ -17,7 +19,7 @@ IsOneFile name command prefer (task.OneFile n c p) = (n.now ≡ name) × (c ≡ 
 IsOneFile name command prefer _ = ⊥
 
 -- The task is this command on the files with these names, under the preference.
-abbrev pub AreTwoFiles : List ℕ → List ℕ → PairCommand → Option (List ℕ) → Task → Type 0
+abbrev pub AreTwoFiles : List ℕ → List ℕ → TwoFilesCommand → Option (List ℕ) → Task → Type 0
 AreTwoFiles left right command prefer (task.TwoFiles l r c p) = (l.now ≡ left) × (r.now ≡ right) × (c ≡ command) × (option_copied p ≡ prefer)
 AreTwoFiles left right command prefer _ = ⊥
 
@@ -36,15 +38,15 @@ abbrev pub IsTaskOf : Request → Task → Type 0
 IsTaskOf Filter found = IsFilter found
 IsTaskOf (Check name prefer) found = IsOneFile name file.Check prefer found
 IsTaskOf (Canon name prefer) found = IsOneFile name file.Canon prefer found
-IsTaskOf (CheckData name prefer) found = IsOneFile name file.CheckData prefer found
-IsTaskOf (Ballots name prefer) found = IsOneFile name file.Ballots prefer found
-IsTaskOf (BallotsData name prefer) found = IsOneFile name file.BallotsData prefer found
+IsTaskOf (CheckData name prefer) found = IsOneFile name (file.Answer asked_of_one.CheckData) prefer found
+IsTaskOf (Ballots name prefer) found = IsOneFile name (file.Answer asked_of_one.Ballots) prefer found
+IsTaskOf (BallotsData name prefer) found = IsOneFile name (file.Answer asked_of_one.BallotsData) prefer found
 IsTaskOf (PrepareList name) found = IsOneFile name file.PrepareList None found
 IsTaskOf (Compare left right prefer) found = AreTwoFiles left right pair.Compare prefer found
-IsTaskOf (CompareData left right prefer) found = AreTwoFiles left right pair.CompareData prefer found
-IsTaskOf (Differences left right prefer) found = AreTwoFiles left right pair.Differences prefer found
-IsTaskOf (DifferencesData left right prefer) found = AreTwoFiles left right pair.DifferencesData prefer found
-IsTaskOf (BallotDifferences left right prefer) found = AreTwoFiles left right pair.BallotDifferences prefer found
-IsTaskOf (BallotDifferencesData left right prefer) found = AreTwoFiles left right pair.BallotDifferencesData prefer found
+IsTaskOf (CompareData left right prefer) found = AreTwoFiles left right (pair.Answer asked_of_two.CompareData) prefer found
+IsTaskOf (Differences left right prefer) found = AreTwoFiles left right (pair.Answer asked_of_two.Differences) prefer found
+IsTaskOf (DifferencesData left right prefer) found = AreTwoFiles left right (pair.Answer asked_of_two.DifferencesData) prefer found
+IsTaskOf (BallotDifferences left right prefer) found = AreTwoFiles left right (pair.Answer asked_of_two.BallotDifferences) prefer found
+IsTaskOf (BallotDifferencesData left right prefer) found = AreTwoFiles left right (pair.Answer asked_of_two.BallotDifferencesData) prefer found
 IsTaskOf (Prepare name words prefer) found = IsBySteps name steps.Prepare words prefer found
 IsTaskOf (PrepareReport name words) found = IsBySteps name steps.Report words None found

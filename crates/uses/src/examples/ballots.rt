@@ -1,12 +1,13 @@
 //! Examples of the calls on ballots.
+use crate::examples::engines::answers;
 use crate::examples::shown::{
     BALLOT, BESIDE, DIFFERENCE_LINE, DIFFERS, HEAD_LINE, HEADS, UNLISTED,
 };
 use erd_canon::{
-    BallotsAsked, Outcome, ReadFrom, WriteTo, ballot_differences_data_with,
-    ballots_beside_data_with, ballots_data_with, run_ballot_differences,
-    run_ballot_differences_data, run_ballots, run_ballots_data,
+    BallotsAsked, Outcome, PairCommand, ReadFrom, ReportCommand, WriteTo,
+    ballot_differences_data_with, ballots_beside_data_with, ballots_data_with, run_report,
 };
+use std::alloc::Global;
 use std::process::Abort;
 use std::test::Fail;
 
@@ -40,49 +41,41 @@ fn beside_as_data(rt: HostRuntime) -> Result<(), Fail> {
     Ok(())
 }
 
-#[test]
-fn lines(rt: HostRuntime) -> Result<(), Fail> {
-    let (alloc, prefer) = (rt.alloc(), Some("local-level"));
-    let mut reader = ReadFrom::of(BALLOT.as_bytes());
+// Whether the command answers for the report with this outcome and this text.
+fn tells(
+    alloc: Global,
+    report: &str,
+    command: ReportCommand,
+    outcome: Outcome,
+    text: &str,
+) -> bool {
+    let mut reader = ReadFrom::of(report.as_bytes());
     let mut out = WriteTo::of(Vec::new(alloc));
-    assert!(rt; run_ballots(alloc, &mut reader, &mut out, prefer)? == Outcome::Good);
-    assert!(rt; out.writer.as_slice() == HEAD_LINE.as_bytes());
-    Ok(())
+    let answer = run_report(alloc, &mut reader, &mut out, command, Some("local-level"));
+    answer == Ok(outcome) && out.writer.as_slice() == text.as_bytes()
 }
 
 #[test]
-fn heads(rt: HostRuntime) -> Result<(), Fail> {
-    let (alloc, prefer) = (rt.alloc(), Some("local-level"));
-    let mut reader = ReadFrom::of("{".as_bytes());
-    let mut out = WriteTo::of(Vec::new(alloc));
-    assert!(rt; run_ballots_data(alloc, &mut reader, &mut out, prefer)? == Outcome::NotJson);
-    assert!(rt; out.writer.as_slice() == "\"not JSON\"\n".as_bytes());
-    Ok(())
-}
-
-#[test]
-fn difference_lines(rt: HostRuntime) -> Result<(), Fail> {
-    let (alloc, prefer) = (rt.alloc(), Some("local-level"));
-    let mut left = ReadFrom::of(BALLOT.as_bytes());
-    let mut right = ReadFrom::of(UNLISTED.as_bytes());
-    let mut out = WriteTo::of(Vec::new(alloc));
+fn heads(rt: HostRuntime) {
+    let alloc = rt.alloc();
     assert!(rt;
-        run_ballot_differences(alloc, &mut left, &mut right, &mut out, prefer)? == Outcome::Bad
+        tells(
+            alloc,
+            BALLOT,
+            ReportCommand::Ballots,
+            Outcome::Good,
+            HEAD_LINE
+        )
     );
-    assert!(rt; out.writer.as_slice() == DIFFERENCE_LINE.as_bytes());
-    Ok(())
+    let (command, text) = (ReportCommand::BallotsData, "\"not JSON\"\n");
+    assert!(rt; tells(alloc, "{", command, Outcome::NotJson, text));
 }
 
 #[test]
-fn differences(rt: HostRuntime) -> Result<(), Fail> {
-    let (alloc, prefer) = (rt.alloc(), Some("local-level"));
-    let mut left = ReadFrom::of(BALLOT.as_bytes());
-    let mut right = ReadFrom::of(BALLOT.as_bytes());
-    let mut out = WriteTo::of(Vec::new(alloc));
-    assert!(rt;
-        run_ballot_differences_data(alloc, &mut left, &mut right, &mut out, prefer)?
-            == Outcome::Good
-    );
-    assert!(rt; out.writer.as_slice() == "[]\n".as_bytes());
-    Ok(())
+fn differences(rt: HostRuntime) {
+    let (alloc, other) = (rt.alloc(), (BALLOT, UNLISTED));
+    let command = PairCommand::BallotDifferences;
+    assert!(rt; answers(alloc, other, command, Outcome::Bad, DIFFERENCE_LINE));
+    let command = PairCommand::BallotDifferencesData;
+    assert!(rt; answers(alloc, (BALLOT, BALLOT), command, Outcome::Good, "[]\n"));
 }

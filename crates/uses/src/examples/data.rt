@@ -1,9 +1,6 @@
 //! Examples of the calls that answer as data.
 use crate::tests::{BARE, OTHER_NAME, REPORT};
-use erd_canon::{
-    check_data, check_data_with, compare_bytes, compare_data, compare_data_with, differences_data,
-    differences_data_with,
-};
+use erd_canon::{check_data_with, compare_bytes, compare_data_with, differences_data_with};
 use erd_compare::DetailedDifference;
 use std::alloc::Global;
 use std::process::Abort;
@@ -12,7 +9,7 @@ use std::test::Fail;
 #[test]
 fn faults(rt: HostRuntime) -> Result<(), Fail> {
     let alloc = rt.alloc();
-    let answer = check_data(alloc, BARE.as_bytes())?;
+    let answer = check_data_with(alloc, BARE.as_bytes(), None)?;
     assert!(rt; answer.outcome.status() == 1);
     assert!(rt;
         answer.text.as_str()
@@ -25,11 +22,11 @@ fn faults(rt: HostRuntime) -> Result<(), Fail> {
 fn differences(rt: HostRuntime) -> Result<(), Fail> {
     let alloc = rt.alloc();
     let (one, other) = (REPORT.as_bytes(), OTHER_NAME.as_bytes());
-    let answer = compare_data(alloc, one, other)?;
+    let answer = compare_data_with(alloc, one, other, None)?;
     assert!(rt;
         answer.text.as_str() == r#"{"how":"member","key":null,"member":"Name","part":"election"}"#
     );
-    let answer = differences_data(alloc, one, other)?;
+    let answer = differences_data_with(alloc, one, other, None)?;
     assert!(rt;
         answer.text.as_str() == r#"[{"how":"member","key":null,"member":"Name","part":"election"}]"#
     );

@@ -1,10 +1,10 @@
 //! Examples of the engines and the command line of `erd_canon`.
 use crate::tests::{CANONICAL, OTHER_NAME, REPORT};
 use erd_canon::{
-    Disposal, Free, Outcome, ReadFrom, Request, RunFault, Sink, Source, WriteTo, command_line,
-    command_line_data, run_canon, run_canon_disposing, run_canon_with, run_check, run_check_data,
-    run_check_disposing, run_check_with, run_compare, run_compare_data, run_compare_disposing,
-    run_compare_with, run_differences, run_differences_data, write_out,
+    Disposal, Free, Outcome, PairCommand, ReadFrom, ReportCommand, Request, RunFault, Sink, Source,
+    WriteTo, command_line, command_line_data, run_canon, run_canon_disposing, run_canon_with,
+    run_check, run_check_disposing, run_check_with, run_compare, run_compare_disposing,
+    run_compare_with, run_pair, run_report, write_out,
 };
 use std::alloc::{AllocError, Global};
 use std::mem;
@@ -90,19 +90,9 @@ fn check_as_data(rt: HostRuntime) -> Result<(), Fail> {
     let (alloc, prefer) = (rt.alloc(), Some("local-level"));
     let mut reader = ReadFrom::of(REPORT.as_bytes());
     let mut out = WriteTo::of(Vec::new(alloc));
-    assert!(rt; run_check_data(alloc, &mut reader, &mut out, prefer)? == Outcome::Good);
+    let command = ReportCommand::CheckData;
+    assert!(rt; run_report(alloc, &mut reader, &mut out, command, prefer)? == Outcome::Good);
     assert!(rt; out.writer.as_slice() == "[]\n".as_bytes());
-    Ok(())
-}
-
-#[test]
-fn compare_as_data(rt: HostRuntime) -> Result<(), Fail> {
-    let (alloc, prefer) = (rt.alloc(), Some("local-level"));
-    let mut left = ReadFrom::of(REPORT.as_bytes());
-    let mut right = ReadFrom::of(REPORT.as_bytes());
-    let mut out = WriteTo::of(Vec::new(alloc));
-    assert!(rt; run_compare_data(alloc, &mut left, &mut right, &mut out, prefer)? == Outcome::Good);
-    assert!(rt; out.writer.as_slice() == "null\n".as_bytes());
     Ok(())
 }
 
@@ -112,22 +102,33 @@ fn differences(rt: HostRuntime) -> Result<(), Fail> {
     let mut left = ReadFrom::of(REPORT.as_bytes());
     let mut right = ReadFrom::of(OTHER_NAME.as_bytes());
     let mut out = WriteTo::of(Vec::new(alloc));
-    assert!(rt; run_differences(alloc, &mut left, &mut right, &mut out, prefer)? == Outcome::Bad);
+    let command = PairCommand::Differences;
+    assert!(rt; run_pair(alloc, &mut left, &mut right, &mut out, command, prefer)? == Outcome::Bad);
     assert!(rt; out.writer.as_slice() == "election: member \"Name\"\n".as_bytes());
     Ok(())
 }
 
-#[test]
-fn differences_as_data(rt: HostRuntime) -> Result<(), Fail> {
-    let (alloc, prefer) = (rt.alloc(), Some("local-level"));
-    let mut left = ReadFrom::of(REPORT.as_bytes());
-    let mut right = ReadFrom::of(REPORT.as_bytes());
+// Whether the command answers for the two reports with this outcome and this text.
+pub(crate) fn answers(
+    alloc: Global,
+    (left, right): (&str, &str),
+    command: PairCommand,
+    outcome: Outcome,
+    text: &str,
+) -> bool {
+    let mut left = ReadFrom::of(left.as_bytes());
+    let mut right = ReadFrom::of(right.as_bytes());
     let mut out = WriteTo::of(Vec::new(alloc));
-    assert!(rt;
-        run_differences_data(alloc, &mut left, &mut right, &mut out, prefer)? == Outcome::Good
-    );
-    assert!(rt; out.writer.as_slice() == "[]\n".as_bytes());
-    Ok(())
+    let prefer = Some("local-level");
+    let answer = run_pair(alloc, &mut left, &mut right, &mut out, command, prefer);
+    answer == Ok(outcome) && out.writer.as_slice() == text.as_bytes()
+}
+
+#[test]
+fn pairs_as_data(rt: HostRuntime) {
+    let (alloc, same, good) = (rt.alloc(), (REPORT, REPORT), Outcome::Good);
+    assert!(rt; answers(alloc, same, PairCommand::CompareData, good, "null\n"));
+    assert!(rt; answers(alloc, same, PairCommand::DifferencesData, good, "[]\n"));
 }
 
 // Leaves each value to the system, which takes all memory of the process back when it ends.

@@ -1,5 +1,5 @@
 use Rattle.erd_canon.proofs.Common.{option_copied, ap, sym, subst, Err, IsReadWhole, most_bytes, rules}
-use Rattle.erd_canon.specs.code.AskedCommands.{pair_answers}
+use Rattle.erd_canon.specs.AskedCommands.{pair_answers}
 use Rattle.erd_canon.proofs.runs.Answering.{broken_pair, whole_pair}
 use Rattle.erd_canon.proofs.runs.CheckTexts.{not_of_fault}
 use Rattle.erd_canon.proofs.runs.KnownBytes.{read_whole}

@@ -1,5 +1,5 @@
 use Rattle.erd_canon.proofs.Common.{option_copied, ap, sym, subst, Err, IsReadWhole, most_bytes, rules}
-use Rattle.erd_canon.specs.code.AskedCommands.{report_answers}
+use Rattle.erd_canon.specs.AskedCommands.{report_answers}
 use Rattle.erd_canon.proofs.runs.Answering.{broken_report, whole_report}
 use Rattle.erd_canon.proofs.runs.CheckTexts.{not_of_fault}
 use Rattle.erd_canon.proofs.runs.KnownBytes.{read_whole}
