@@ -59,12 +59,19 @@ for (const name of readdirSync(SUITE)) {
     if (difference !== null) {
         await tryRun(name, ['compare', ...words, join(folder, 'left.json'), join(folder, 'right.json')],
             [STATUSES[difference] ?? 1, difference, '']);
+        if (/^(left|right): /.test(difference)) {
+            await tryRun(name, ['ballots', ...words, join(folder, 'left.json'), join(folder, 'right.json')], [STATUSES[difference] ?? 1, difference, '']);
+        }
     } else if (prefer !== null) {
         const lines = textOf(folder, 'check.txt');
         const form = textOf(folder, 'canonical.json');
         const status = STATUSES[lines] ?? 1;
         const file = join(folder, 'input.json');
         await tryRun(name, ['check', ...words, file], [status, lines, '']);
+        // Why a report has no ballots is told as by a check.
+        if (status !== 0) {
+            await tryRun(name, ['ballots', ...words, file], [status, lines, '']);
+        }
         await tryRun(name, ['canon', ...words, file], form === null ? [status, '', lines] : [0, form, '']);
     }
 }

@@ -164,6 +164,8 @@ function contests(count, note, kind) {
 const long2500 = [contests(2500, 1, 'a'), contests(2500, 2, 'a')];
 const listed = erd.differences(...long2500);
 equal('a thousand differences', `${listed.differences.length} ${listed.allDifferences} ${listed.more}`, '1000 2500 true');
+equal('none of a thousand differences', [erd.differences(...long2500, { mostDifferences: 0 })].map(({ outcome, status, same }) => `${outcome} ${status} ${same}`).join(),
+    'different 1 false');
 const wholeList = erd.differences(...long2500, { mostDifferences: null });
 equal('all differences', `${wholeList.differences.length} ${wholeList.allDifferences} ${wholeList.more}`, '2500 2500 false');
 equal('their keys', wholeList.differences.every(({ key }, index) => key[2] === `C-${10000 + index}`), true);

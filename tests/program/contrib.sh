@@ -138,6 +138,13 @@ for script in check-folder git-textconv; do
     equal "$script.sh with a closed output: its words" "$(cat "$work/err")" "$script.sh: write failed"
 done
 
+# ---- a worker that is lost
+printf '#!/bin/sh\nkill -9 "$(ps -o ppid= "$PPID")" "$PPID"\n' > "$work/bin/kills"
+chmod +x "$work/bin/kills"
+run env ERD=kills contrib/check-folder.sh "$folder/a.json"
+expect_text 'a worker that is lost' 3 ''
+equal 'it is told' "$(tail -n 1 "$work/err")" 'check-folder.sh: some files were not judged'
+
 # ---- where there is no program
 for script in check-folder git-textconv; do
     run env ERD=nosuch contrib/$script.sh "$folder/a.json"
@@ -237,6 +244,14 @@ expect 'the hook where git has lost a version' 3
 equal 'it says which is lost, and which is refused' "$(grep -v '^fatal: ' "$work/err")" \
     $'ballots/refused.json is not accepted:\n  /Odd^[/@id: carried identity\n  /Status: not pre-election
 ballots/unjudged.json could not be judged:\n  git does not have it'
+git reset -q --hard
+faulty ballots/zzz.json
+cp "$top/examples/small-ballot.json" ballots/aaa.json
+git add -A
+blob=$(git rev-parse :ballots/aaa.json)
+rm -f ".git/objects/${blob%"${blob#??}"}/${blob#??}"
+run .git/hooks/pre-commit
+expect 'the hook where a version is lost, and a later one is refused' 3
 git reset -q --hard
 
 # refused NAME WHY ..: what is staged is refused for these files, one a line as git writes their names, and is taken back

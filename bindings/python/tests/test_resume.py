@@ -130,3 +130,13 @@ def test_a_whole_run_leaves_nothing_to_resume(runs):
     runs.rows('--resume')
     runs.rows('--resume')
     assert runs.judged == FILES
+
+
+def test_no_memory_is_a_row_with_its_status(runs, monkeypatch):
+    def canonical(*_, **__):
+        raise MemoryError
+
+    with monkeypatch.context() as patch:
+        patch.setattr('erd.judging.canonical', canonical)
+        assert {row['verdict'] for row in runs.rows().values()} == {'no memory'}
+        assert many.main([str(runs.folder)]) == 4
