@@ -9,6 +9,7 @@ use Rattle.erd_prepare.specs.Reading.{IsNoJson, IsReadAs}
 use Rattle.erd_prepare.specs.Steps.{IsOwnRule}
 use Rattle.erd_prepare.specs.StepWords.{group_named, group_of, step_named, steps_chosen, steps_of_group}
 use Rattle.erd_prepare.specs.WholeNumbers.{whole_numbers}
+use Rattle.erd_prepare.specs.declared.step_done.Others.TheVariants as others
 use Rattle.erd_prepare.specs.declared.step_group.StepGroup.TheVariants as group
 use Rattle.erd_prepare.specs.declared.step_name.StepName.TheVariants as step
 
@@ -49,8 +50,8 @@ any_rule : IsOwnRule step.Codes null whole_numbers
 any_rule = tt
 
 -- what is not chosen is not done
-not_done : AreStepsDone [] null (step.Nulls ∷ []) [] null
-not_done = left_out [] step.Nulls [] null (λ chosen. let low : chosen.0 < 0 = chosen.1 in omega arith) no_step
+not_done : AreStepsDone others.Untold [] null (step.Nulls ∷ []) [] null []
+not_done = left_out [] step.Nulls [] null [] [] (λ chosen. let low : chosen.0 < 0 = chosen.1 in omega arith) no_step refl
 
 -- ---- reading
 
