@@ -208,6 +208,10 @@ def examples_of_data(folder):
             if isinstance(answer, list) and 'how' in answer[0]:
                 yield f'{page}: {text}', *lines_of_differences(folder, answer)
                 continue
+            if 'values' in answer:
+                # no form but the library has these: beside them, the entry is that of the lists
+                values = answer.pop('values')
+                yield f'{page}: {text} has what both reports have', (['left', 'right'], False), (list(values), values['left'] == values['right'])
             answer = [answer] if 'place' in answer else answer
             lines = texts_of_data.check_text(answer) if isinstance(answer, list) else texts_of_data.compare_text(answer)
             yield f'{page}: {text}', lines, line_of_data(folder, answer)
