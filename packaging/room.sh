@@ -12,5 +12,5 @@ told() {
     [ "$2" -ge "$3" ] || echo "notice: $1: $(($2 / 1000)).$(($2 / 100 % 10)) GB are free, and $(($3 / 1000)).$(($3 / 100 % 10)) GB are needed"
 }
 
-told 'memory, for the largest proof' "$memory" 7000
+told 'memory, for the largest proof' "$memory" 7200
 told 'disk, for the proofs that are kept' "$disk" 5700

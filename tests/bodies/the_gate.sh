@@ -60,9 +60,9 @@ room() {
     equal "$1" "$(packaging/room.sh "$2" "$3" | cut -d : -f 1-3)" "${4:-none}"
 }
 
-room 'too little memory' 6999 5700 'notice: memory, for the largest proof: 6.9 GB are free, and 7.0 GB are needed'
-room 'too little disk' 7000 5699 'notice: disk, for the proofs that are kept: 5.6 GB are free, and 5.7 GB are needed'
-said 'enough of both' "$(packaging/room.sh 7000 5700)"
+room 'too little memory' 7199 5700 'notice: memory, for the largest proof: 7.1 GB are free, and 7.2 GB are needed'
+room 'too little disk' 7200 5699 'notice: disk, for the proofs that are kept: 5.6 GB are free, and 5.7 GB are needed'
+said 'enough of both' "$(packaging/room.sh 7200 5700)"
 
 # A gate of small parts, in a folder of its own: the proof ends when the file `go` is there, a part is lost when it ends its lane, one
 # gives no counts, and one waits for a part that is lost.
