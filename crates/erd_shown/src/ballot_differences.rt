@@ -10,7 +10,8 @@ ghost use Rattle.erd_shown.specs.code.Marks.{AreMarks};
 use crate::ballots::ballot_text;
 use crate::beside::rows_between;
 use crate::keys::write_key_or_null;
-use crate::marks::{Marks, marks_between};
+use crate::marks::marks_between;
+use crate::pairs::Pair;
 use crate::reworded::is_same_text;
 use crate::reworded_lines::is_ballot_reworded;
 use crate::row_texts::write_place;
@@ -24,14 +25,6 @@ use std::alloc::{AllocError, Global};
 
 /// A style: its key, and its position in its report.
 type Place<'a> = (Option<&'a Key>, usize);
-
-/// Two reports, and the objects of which ballots print other words in the right one.
-#[derive(Drop)]
-struct Pair<'a, 'l, 'r> {
-    left: &'a Report<'l>,
-    right: &'a Report<'r>,
-    marks: Marks,
-}
 
 /// A style whose ballots are not the same in two reports.
 #[derive(Clone, Copy, Debug, PartialEq, Eq)]

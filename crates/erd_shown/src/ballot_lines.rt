@@ -137,7 +137,7 @@ fn push_line(
 }
 
 /// Returns a space and the key as compact JSON, or the empty text if there is no key.
-fn key_words(alloc: Global, key: Option<&Key>) -> Result<String, AllocError>
+pub(crate) fn key_words(alloc: Global, key: Option<&Key>) -> Result<String, AllocError>
     ensures { IfOk result (λ words. string_bytes words ≡ key_words (option_copied key.entry)) }
 {
     match key {

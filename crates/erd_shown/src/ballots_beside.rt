@@ -60,7 +60,7 @@ pub fn write_ballots_beside(
 }
 
 /// Returns rows of lines, each with the selections inside it.
-fn with_selections<'a>(
+pub(crate) fn with_selections<'a>(
     alloc: Global,
     left: &'a Report,
     ones: &[Line],
@@ -108,7 +108,7 @@ fn selections_of_row<'a>(
 }
 
 /// Returns the line at a position, if there is one.
-fn line_in<'a>(lines: &[Line<'a>], position: usize) -> Option<Line<'a>>
+pub(crate) fn line_in<'a>(lines: &[Line<'a>], position: usize) -> Option<Line<'a>>
     ensures { result ≡ slice_get lines.now position }
 {
     lines.get(position).copied()
@@ -135,7 +135,7 @@ fn selections_at<'a>(
 }
 
 /// Returns the rows of lines of two ballots.
-fn rows_of_lines(
+pub(crate) fn rows_of_lines(
     alloc: Global,
     left: &Report,
     ones: &[Line],

@@ -67,7 +67,7 @@ fn any_line_reworded(left: &Report, lines: &[Line], right: &Report, marks: &Mark
 }
 
 /// Returns whether ballots print other words of a line.
-fn is_line_reworded(left: &Report, node: &Value, right: &Report, marks: &Marks) -> bool
+pub(crate) fn is_line_reworded(left: &Report, node: &Value, right: &Report, marks: &Marks) -> bool
     requires marks { AreMarks left.now.prefer (view left.now.tree) right.now.prefer (view right.now.tree) marks.now }
     ensures { result ≡ is_line_reworded left.now.prefer (view left.now.tree) right.now.prefer (view right.now.tree) (view node.now) }
 {

@@ -70,6 +70,15 @@ fn write_selections_of(
     write_lines(alloc, report, &lines, out)
 }
 
+/// Returns what ballots print of the selections of a contest on a ballot, as compact JSON.
+pub(crate) fn line_text(alloc: Global, report: &Report, node: &Value) -> Result<String, AllocError>
+    ensures { IfOk result (λ text. string_bytes text ≡ compact_text (selection_words report.now.prefer (view report.now.tree) (view node.now))) }
+{
+    let mut out = Output::new(alloc);
+    write_line(alloc, report, node, &mut out)?;
+    text_of(out)
+}
+
 /// Writes what ballots print of the selections on each of the lines.
 fn write_lines(
     alloc: Global,
