@@ -19,7 +19,6 @@ mod parts;
 mod places;
 mod preferred_rows;
 mod prepare_runs;
-mod prepared;
 mod prepared_files;
 mod prepared_steps;
 mod program;

@@ -1,14 +1,17 @@
-//! What each step does that is held by cases: the report before and after it, and what it leaves.
-use crate::tests::edits::spelled;
+//! What each step does that is held by cases: the report before and after it, what it leaves, and the places of what it changes.
+use crate::tests::edits::{spelled, value_of};
 use erd_prepare::{Done, STEPS, StepName, do_step};
+use erd_tables::pointer;
 use serde_json::Value;
 use std::alloc::{AllocError, Global};
+use std::process::Abort;
 use std::test::Fail;
 
-/// A step on a report: the report before, the report after, and each place that is left, with the reason, and `;` between them.
-/// In texts `%` stands for the prefix of class names, and `#U1&` for one identifier.
+/// A step on a report: the report before, the report after, and what is told. In texts `%` stands for the prefix of class names,
+/// and `#U1&` for one identifier.
 type Case = (StepName, &'static str, &'static str, &'static str);
 
+/// What is told is each place that is left, with the reason, and `;` behind it.
 const CASES: &[Case] = &[
     (
         StepName::ClassNames,
@@ -168,18 +171,111 @@ const CASES: &[Case] = &[
     ),
 ];
 
+/// What is told is the place of each change in the report before, with `;` behind it.
+const CHANGES: &[Case] = &[
+    (
+        StepName::Nulls,
+        r#"{"@type":"X","a":{"b":null,"c":[null,{"d":null}]},"n":18446744073709551615}"#,
+        r#"{"@type":"X","a":{"c":[null,{}]},"n":18446744073709551615}"#,
+        "/a/b;/a/c/1/d;",
+    ),
+    (
+        StepName::UnusedPersons,
+        r#"{"@type":"%ElectionReport","GpUnit":[{"AuthorityIds":["p2"]}],"Person":[{"@id":"p1"},{"@id":"p2"},{}]}"#,
+        r#"{"@type":"%ElectionReport","GpUnit":[{"AuthorityIds":["p2"]}],"Person":[{"@id":"p2"}]}"#,
+        "/Person/0;/Person/2;",
+    ),
+    (
+        StepName::Names,
+        r#"{"@type":"%ElectionReport","Office":[{"@type":"%Office","Name":{"Text":[{"Language":"es","Content":"B"},{"Language":"en","Content":"A"}]}}]}"#,
+        r#"{"@type":"%ElectionReport","Office":[{"@type":"%Office","ExternalIdentifier":[{"@type":"%ExternalIdentifier","OtherType":"name","Type":"other","Value":"A"}],"Name":{"Text":[{"Language":"es","Content":"B"},{"Language":"en","Content":"A"}]}}]}"#,
+        "/Office/0/ExternalIdentifier;",
+    ),
+    (
+        StepName::Coordinates,
+        r#"{"a":{"LatLng":{"Latitude":1.5}}}"#,
+        r#"{"a":{}}"#,
+        "/a/LatLng;",
+    ),
+    (
+        StepName::Repeated,
+        r#"{"@type":"%ElectionReport","GpUnit":[{"@type":"%ReportingUnit","AuthorityIds":["a","b","a"]}]}"#,
+        r#"{"@type":"%ElectionReport","GpUnit":[{"@type":"%ReportingUnit","AuthorityIds":["a","b"]}]}"#,
+        "/GpUnit/0/AuthorityIds/2;",
+    ),
+    (
+        StepName::Devices,
+        r#"{"@type":"%ElectionReport","GpUnit":[{"@id":"d","@type":"%ReportingDevice"},{"@type":"%ReportingUnit","ComposingGpUnitIds":["u","d"]}]}"#,
+        r#"{"@type":"%ElectionReport","GpUnit":[{"@type":"%ReportingUnit","ComposingGpUnitIds":["u"]}]}"#,
+        "/GpUnit/0;/GpUnit/1/ComposingGpUnitIds/1;",
+    ),
+    (
+        StepName::SharedCodes,
+        r#"{"@type":"%ElectionReport","GpUnit":[{"@type":"%ReportingUnit","ExternalIdentifier":[{"Type":"fips","Value":"1"},{"Type":"local-level","Value":"7"}]},{"@type":"%ReportingUnit","ExternalIdentifier":[{"Type":"fips","Value":"1"}]}]}"#,
+        r#"{"@type":"%ElectionReport","GpUnit":[{"@type":"%ReportingUnit","ExternalIdentifier":[{"Type":"local-level","Value":"7"}]},{"@type":"%ReportingUnit","ExternalIdentifier":[{"Type":"fips","Value":"1"}]}]}"#,
+        "/GpUnit/0/ExternalIdentifier/0;",
+    ),
+    (
+        StepName::UnusedStyles,
+        r#"{"@type":"%ElectionReport","Election":[{"@type":"%Election","BallotStyle":[{"GpUnitIds":[]},{"GpUnitIds":["u"]}]}]}"#,
+        r#"{"@type":"%ElectionReport","Election":[{"@type":"%Election","BallotStyle":[{"GpUnitIds":["u"]}]}]}"#,
+        "/Election/0/BallotStyle/0;",
+    ),
+    (
+        StepName::GoneCandidates,
+        r#"{"@type":"%ElectionReport","Election":[{"@type":"%Election","BallotStyle":[{"@type":"%BallotStyle","OrderedContent":[{"@type":"%OrderedContest","OrderedContestSelectionIds":["s","t"]}]}],"Candidate":[{"@id":"c","@type":"%Candidate"}],"Contest":[{"@type":"%CandidateContest","ContestSelection":[{"@id":"s","@type":"%CandidateSelection","CandidateIds":["gone"]},{"@id":"t","@type":"%CandidateSelection","CandidateIds":["c"]}]}]}]}"#,
+        r#"{"@type":"%ElectionReport","Election":[{"@type":"%Election","BallotStyle":[{"@type":"%BallotStyle","OrderedContent":[{"@type":"%OrderedContest","OrderedContestSelectionIds":["t"]}]}],"Candidate":[{"@id":"c","@type":"%Candidate"}],"Contest":[{"@type":"%CandidateContest","ContestSelection":[{"@id":"t","@type":"%CandidateSelection","CandidateIds":["c"]}]}]}]}"#,
+        "/Election/0/BallotStyle/0/OrderedContent/0/OrderedContestSelectionIds/0;/Election/0/Contest/0/ContestSelection/0;",
+    ),
+    (
+        StepName::Counts,
+        r#"{"@type":"%ElectionReport","Election":[{"@type":"%Election","Contest":[{"@type":"%CandidateContest","OtherCounts":[{"Overvotes":0.0,"Round":2}]}]}]}"#,
+        r#"{"@type":"%ElectionReport","Election":[{"@type":"%Election","Contest":[{"@type":"%CandidateContest"}]}]}"#,
+        "/Election/0/Contest/0/OtherCounts;",
+    ),
+    (
+        StepName::EmptyLists,
+        r#"{"@type":"%ElectionReport","Election":[],"Party":[]}"#,
+        r#"{"@type":"%ElectionReport","Election":[]}"#,
+        "/Party;",
+    ),
+];
+
+/// Does the step, and returns what it did if the report is right then.
+fn after_step(
+    rt: &impl Abort,
+    alloc: Global,
+    (step, before, after, _): &Case,
+) -> Result<Done, Fail> {
+    let report = value_of(alloc, spelled(alloc, before)?.as_str())?;
+    let wanted = value_of(alloc, spelled(alloc, after)?.as_str())?;
+    let done = do_step(alloc, *step, &report)?;
+    has_texts(rt, alloc, &done.tree, &wanted)?;
+    Ok(done)
+}
+
+fn has_texts(rt: &impl Abort, alloc: Global, tree: &Value, wanted: &Value) -> Result<(), Fail> {
+    assert_eq!(rt;
+        tree.to_string(alloc)?.as_str(),
+        wanted.to_string(alloc)?.as_str()
+    );
+    Ok(())
+}
+
 #[test]
 fn each_case_holds(rt: HostRuntime) -> Result<(), Fail> {
-    let alloc = rt.alloc();
-    for (step, before, after, left) in CASES {
-        let report = Value::from_str(alloc, spelled(alloc, before)?.as_str())?;
-        let wanted = Value::from_str(alloc, spelled(alloc, after)?.as_str())?;
-        let done = do_step(alloc, *step, &report)?;
-        assert_eq!(rt;
-            done.tree.to_string(alloc)?.as_str(),
-            wanted.to_string(alloc)?.as_str()
-        );
-        assert_eq!(rt; left_of(alloc, &done)?.as_str(), *left);
+    for case in CASES {
+        let done = after_step(&rt, rt.alloc(), case)?;
+        assert_eq!(rt; left_of(rt.alloc(), &done)?.as_str(), case.3);
+    }
+    Ok(())
+}
+
+#[test]
+fn each_change_is_told(rt: HostRuntime) -> Result<(), Fail> {
+    for case in CHANGES {
+        let done = after_step(&rt, rt.alloc(), case)?;
+        assert_eq!(rt; places_of(rt.alloc(), &done)?.as_str(), case.3);
     }
     Ok(())
 }
@@ -191,6 +287,16 @@ fn left_of(alloc: Global, done: &Done) -> Result<String, AllocError> {
         text.push_str(it.place.as_str())?;
         text.push_str(" ")?;
         text.push_str(it.why.text())?;
+        text.push_str(";")?;
+    }
+    Ok(text)
+}
+
+/// Returns the places of what has changed, as the cases write them.
+fn places_of(alloc: Global, done: &Done) -> Result<String, AllocError> {
+    let mut text = String::new(alloc);
+    for it in &done.changes {
+        text.push_str(pointer(alloc, &it.place)?.as_str())?;
         text.push_str(";")?;
     }
     Ok(text)
