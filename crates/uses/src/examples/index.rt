@@ -28,8 +28,9 @@ impl Sought<u64> for Number {
 fn salts(rt: HostRuntime) {
     let salt = Salt::of(1, 2);
     let joined = salt.joined(&Salt::of(3, 4));
-    assert!(rt; joined.number(&20) != salt.number(&20));
-    assert!(rt; salt.text_number("gp1") != salt.text_number("gp2"));
+    assert!(rt;
+        joined.number(&20) != salt.number(&20) && salt.text_number("gp1") != salt.text_number("gp2")
+    );
     let mut hasher = salt.hasher();
     20.hash(&mut hasher);
     assert!(rt; hasher.finish() == salt.number(&20));
@@ -46,19 +47,20 @@ fn salts_of_what_is_fed(rt: HostRuntime) {
 #[test]
 fn sought_keys(rt: HostRuntime) {
     let (salt, sought) = (Salt::of(1, 2), Number(20));
-    assert!(rt; sought.number(&salt) == salt.number(&20u64));
-    assert!(rt; sought.finds(&20));
+    assert!(rt; sought.number(&salt) == salt.number(&20u64) && sought.finds(&20));
 }
 
 #[test]
 fn salted_sets(rt: HostRuntime) -> Result<(), Fail> {
     let alloc = rt.alloc();
     let mut numbers = SaltedSet::new(alloc, Salt::of(1, 2));
-    assert!(rt; numbers.insert(20)?);
-    assert!(rt; !numbers.insert(20)?);
-    assert!(rt; numbers.insert_full(30)? == (1, true));
-    assert!(rt; numbers.insert_full(30)? == (1, false));
-    assert!(rt; numbers.get_index(1) == Some(&30));
-    assert!(rt; numbers.position(Number(30)) == Some(1));
+    assert!(rt;
+        numbers.insert(20)?
+            && !numbers.insert(20)?
+            && numbers.insert_full(30)? == (1, true)
+            && numbers.insert_full(30)? == (1, false)
+            && numbers.get_index(1) == Some(&30)
+            && numbers.position(Number(30)) == Some(1)
+    );
     Ok(())
 }
