@@ -6,7 +6,7 @@ use erd_canon::{
     Outcome, ReadFrom, RunFault, Source, WriteTo, run_prepare, run_prepare_list, run_prepare_report,
 };
 use erd_prepare::StepName;
-use std::alloc::Global;
+use std::alloc::{AllocError, Global};
 use std::io::{Read, Write};
 use std::process::Abort;
 use std::test::Fail;
@@ -160,16 +160,17 @@ const ROWS: &[Row] = &[
     (Command::Report(CHOSEN), "{", Outcome::NotJson, "", NOT_JSON),
 ];
 
+fn is_written(alloc: Global, row: &Row) -> Result<bool, AllocError> {
+    let (command, file, outcome, out, err) = row;
+    let file = spelled(alloc, file)?;
+    let out = spelled(alloc, out)?;
+    Ok(wrote(alloc, *command, &file, *outcome, &out, err))
+}
+
 #[test]
 fn each_row_is_written(rt: HostRuntime) -> Result<(), Fail> {
-    let alloc = rt.alloc();
-    for (index, (command, file, outcome, out, err)) in ROWS.iter().enumerate() {
-        let file = spelled(alloc, file)?;
-        let out = spelled(alloc, out)?;
-        assert!(rt;
-            wrote(alloc, *command, &file, *outcome, &out, err),
-            "row {index}"
-        );
+    for (index, row) in ROWS.iter().enumerate() {
+        assert!(rt; is_written(rt.alloc(), row)?, "row {index}");
     }
     Ok(())
 }

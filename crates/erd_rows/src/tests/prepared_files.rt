@@ -5,11 +5,28 @@ use std::alloc::{AllocError, Global};
 use std::process::Abort;
 use std::test::Fail;
 
+/// Whether the file becomes this, and this is told.
+fn is_prepared(
+    alloc: Global,
+    (steps, others): (&[StepName], Others),
+    file: &str,
+    after: &str,
+    told: &str,
+) -> bool {
+    match prepare_bytes(alloc, file.as_bytes(), steps, others) {
+        Ok(prepared) => {
+            prepared.bytes.as_slice() == after.as_bytes()
+                && prepared.told.as_slice() == told.as_bytes()
+        }
+        Err(_) => false,
+    }
+}
+
 /// Prepares a file, and compares what comes of it and what is told.
 fn try_file(
     rt: &impl Abort,
     alloc: Global,
-    (steps, others): (&[StepName], Others),
+    how: (&[StepName], Others),
     file: &str,
     after: &str,
     told: &str,
@@ -17,11 +34,7 @@ fn try_file(
     let file = spelled(alloc, file)?;
     let after = spelled(alloc, after)?;
     let told = spelled(alloc, told)?;
-    let prepared = prepare_bytes(alloc, file.as_bytes(), steps, others)
-        .ok()
-        .ok_or("not prepared")?;
-    assert!(rt; prepared.bytes.as_slice() == after.as_bytes());
-    assert!(rt; prepared.told.as_slice() == told.as_bytes());
+    assert!(rt; is_prepared(alloc, how, &file, &after, &told), "{file}");
     Ok(())
 }
 

@@ -1,6 +1,6 @@
 //! What each step does that is held by cases: the report before and after it, what it leaves, and the places of what it changes.
 use crate::tests::edits::{spelled, value_of};
-use erd_prepare::{Done, STEPS, StepName, do_step};
+use erd_prepare::{Done, Left, STEPS, StepName, do_step};
 use erd_tables::pointer;
 use serde_json::Value;
 use std::alloc::{AllocError, Global};
@@ -242,64 +242,62 @@ const CHANGES: &[Case] = &[
 ];
 
 /// Does the step, and returns what it did if the report is right then.
-fn after_step(
-    rt: &impl Abort,
-    alloc: Global,
-    (step, before, after, _): &Case,
-) -> Result<Done, Fail> {
+fn after_step(rt: &impl Abort, alloc: Global, case: &Case) -> Result<Done, Fail> {
+    let (step, before, after, _) = case;
     let report = value_of(alloc, spelled(alloc, before)?.as_str())?;
     let wanted = value_of(alloc, spelled(alloc, after)?.as_str())?;
     let done = do_step(alloc, *step, &report)?;
-    has_texts(rt, alloc, &done.tree, &wanted)?;
+    assert!(rt; has_same_text(alloc, &done.tree, &wanted)?, "{after}");
     Ok(done)
 }
 
-fn has_texts(rt: &impl Abort, alloc: Global, tree: &Value, wanted: &Value) -> Result<(), Fail> {
-    assert_eq!(rt;
-        tree.to_string(alloc)?.as_str(),
-        wanted.to_string(alloc)?.as_str()
-    );
-    Ok(())
+fn has_same_text(alloc: Global, one: &Value, other: &Value) -> Result<bool, AllocError> {
+    Ok(one.to_string(alloc)?.as_str() == other.to_string(alloc)?.as_str())
+}
+
+/// Whether this is left, as the cases write it.
+fn is_left(left: &Left, told: &str) -> bool {
+    told.split_once(' ') == Some((left.place.as_str(), left.why.text()))
+}
+
+fn are_left(done: &Done, told: &str) -> bool {
+    let mut each = told.split(';');
+    for left in &done.left {
+        if !each.next().is_some_and(|it| is_left(left, it)) {
+            return false;
+        }
+    }
+    each.next() == Some("") && each.next().is_none()
 }
 
 #[test]
 fn each_case_holds(rt: HostRuntime) -> Result<(), Fail> {
     for case in CASES {
         let done = after_step(&rt, rt.alloc(), case)?;
-        assert_eq!(rt; left_of(rt.alloc(), &done)?.as_str(), case.3);
+        assert!(rt; are_left(&done, case.3), "{}", case.3);
     }
     Ok(())
+}
+
+/// Whether these are the places of what has changed, as the cases write them.
+fn are_changed(alloc: Global, done: &Done, told: &str) -> Result<bool, AllocError> {
+    let mut each = told.split(';');
+    for change in &done.changes {
+        let place = pointer(alloc, &change.place)?;
+        if each.next() != Some(place.as_str()) {
+            return Ok(false);
+        }
+    }
+    Ok(each.next() == Some("") && each.next().is_none())
 }
 
 #[test]
 fn each_change_is_told(rt: HostRuntime) -> Result<(), Fail> {
     for case in CHANGES {
         let done = after_step(&rt, rt.alloc(), case)?;
-        assert_eq!(rt; places_of(rt.alloc(), &done)?.as_str(), case.3);
+        assert!(rt; are_changed(rt.alloc(), &done, case.3)?, "{}", case.3);
     }
     Ok(())
-}
-
-/// Returns what is left, as the cases write it.
-fn left_of(alloc: Global, done: &Done) -> Result<String, AllocError> {
-    let mut text = String::new(alloc);
-    for it in &done.left {
-        text.push_str(it.place.as_str())?;
-        text.push_str(" ")?;
-        text.push_str(it.why.text())?;
-        text.push_str(";")?;
-    }
-    Ok(text)
-}
-
-/// Returns the places of what has changed, as the cases write them.
-fn places_of(alloc: Global, done: &Done) -> Result<String, AllocError> {
-    let mut text = String::new(alloc);
-    for it in &done.changes {
-        text.push_str(pointer(alloc, &it.place)?.as_str())?;
-        text.push_str(";")?;
-    }
-    Ok(text)
 }
 
 #[test]
