@@ -1,8 +1,8 @@
 ghost use Rattle.std.specs.Prelude.{◌≡◌};
-ghost use Rattle.serde_json.specs.View.{view, number_view, items_view, members_view};
-ghost use Rattle.erd_check.specs.code.JsonOrder.{items_cmp, json_cmp, kind_number, members_cmp, number_cmp};
+ghost use Rattle.serde_json.specs.View.{view, items_view, members_view};
+ghost use Rattle.erd_check.specs.code.JsonOrder.{items_cmp, json_cmp, kind_number, members_cmp};
 
-use serde_json::{Map, Number, Value};
+use serde_json::{Map, Value};
 use std::cmp::Ordering;
 
 /// Compares two values in an order of all JSON values: by kind, then by content. Numbers that are not whole come before
@@ -13,7 +13,7 @@ pub(crate) fn json_order(left: &Value, right: &Value) -> Ordering
 {
     match (left, right) {
         (Value::Bool(left), Value::Bool(right)) => left.cmp(right),
-        (Value::Number(left), Value::Number(right)) => order_of_numbers(left, right),
+        (Value::Number(left), Value::Number(right)) => left.as_i128().cmp(&right.as_i128()),
         (Value::String(left), Value::String(right)) => left.as_str().cmp(right.as_str()),
         (Value::Array(left), Value::Array(right)) => order_of_items(left, right),
         (Value::Object(left), Value::Object(right)) => order_of_members(left, right),
@@ -33,12 +33,6 @@ fn kind_number(value: &Value) -> u8
         Value::Array(_) => 4,
         Value::Object(_) => 5,
     }
-}
-
-fn order_of_numbers(left: &Number, right: &Number) -> Ordering
-    ensures { result ≡ number_cmp (number_view left.now) (number_view right.now) }
-{
-    left.as_i128().cmp(&right.as_i128())
 }
 
 #[cycle(order)]

@@ -11,6 +11,7 @@ ghost use Rattle.erd_check.specs.Wants.{entry_want, is_compared_set};
 ghost use Rattle.erd_check.specs.Paths.{steps_of};
 ghost use Rattle.erd_check.specs.Visits.{told_at, told_of_items, told_of_members, told_of_report, IsKnown, AreEntriesKnown, AreMembersKnown, IsInOrder};
 ghost use Rattle.erd_check.specs.Visits.{AreEntriesInOrder, AreMembersInOrder, IsSilentMember};
+ghost use Rattle.erd_check.specs.code.Visitors.{AddsToBoth};
 ghost use Rattle.erd_check.specs.declared.want.Want.TheVariants.{Object};
 ghost use Rattle.erd_tables.specs.declared.class.Role.TheVariants.{Report};
 
@@ -99,12 +100,9 @@ fn walk<'a, A: Visitor, B: Visitor>(
     context: Context<'a>,
     found: &mut Findings,
 ) -> Result<(), AllocError>
-    ensures first { IfOk result (λ _. found.new.first.items ≡ found.old.first.items
-        ++ told_at (A.tells visitors.now.first.now) (view context.entry.outer.now) (view context.entry.owner.now) (steps_of context.entry.path.now)
-        want (list_any (is_same_json (view value.now)) (map view earlier.now)) (view value.now)) }
-    ensures second { IfOk result (λ _. found.new.second.items ≡ found.old.second.items
-        ++ told_at (B.tells visitors.now.second.now) (view context.entry.outer.now) (view context.entry.owner.now) (steps_of context.entry.path.now)
-        want (list_any (is_same_json (view value.now)) (map view earlier.now)) (view value.now)) }
+    ensures told { IfOk result (λ _. AddsToBoth found.old found.new (A.tells visitors.now.first.now) (B.tells visitors.now.second.now)
+        (λ tells. told_at tells (view context.entry.outer.now) (view context.entry.owner.now) (steps_of context.entry.path.now)
+        want (list_any (is_same_json (view value.now)) (map view earlier.now)) (view value.now))) }
     ensures known { IfOk result (λ _. IsKnown (A.Known visitors.now.first.now) want (view value.now)) }
     ensures in_order { IfOk result (λ _. IsTrue (A.is_thorough visitors.now.first.now) → IsInOrder want (view value.now)) }
 {
@@ -140,12 +138,9 @@ fn walk_items<'a, A: Visitor, B: Visitor>(
     items: &'a Vec<Value>,
     found: &mut Findings,
 ) -> Result<(), AllocError>
-    ensures first { IfOk result (λ _. found.new.first.items ≡ found.old.first.items
-        ++ option_map_or (λ v. told_of_items (A.tells visitors.now.first.now) (view inside.entry.outer.now) (view inside.entry.owner.now)
-        (steps_of inside.entry.path.now) v (is_compared_set want) [] (items_view items.now.items)) (entry_want want) []) }
-    ensures second { IfOk result (λ _. found.new.second.items ≡ found.old.second.items
-        ++ option_map_or (λ v. told_of_items (B.tells visitors.now.second.now) (view inside.entry.outer.now) (view inside.entry.owner.now)
-        (steps_of inside.entry.path.now) v (is_compared_set want) [] (items_view items.now.items)) (entry_want want) []) }
+    ensures told { IfOk result (λ _. AddsToBoth found.old found.new (A.tells visitors.now.first.now) (B.tells visitors.now.second.now)
+        (λ tells. option_map_or (λ v. told_of_items tells (view inside.entry.outer.now) (view inside.entry.owner.now)
+        (steps_of inside.entry.path.now) v (is_compared_set want) [] (items_view items.now.items)) (entry_want want) [])) }
     ensures known { IfOk result (λ _. AreEntriesKnown (A.Known visitors.now.first.now) want (items_view items.now.items)) }
     ensures in_order { IfOk result (λ _. IsTrue (A.is_thorough visitors.now.first.now) → AreEntriesInOrder want (items_view items.now.items)) }
 {
@@ -175,12 +170,9 @@ fn walk_members<'a, A: Visitor, B: Visitor>(
     members: &'a Map<String, Value>,
     found: &mut Findings,
 ) -> Result<(), AllocError>
-    ensures first { IfOk result (λ _. found.new.first.items ≡ found.old.first.items
-        ++ told_of_members (A.tells visitors.now.first.now) (view inside.entry.outer.now) (view inside.entry.owner.now)
-        (steps_of inside.entry.path.now) scope (members_view members.now.entries)) }
-    ensures second { IfOk result (λ _. found.new.second.items ≡ found.old.second.items
-        ++ told_of_members (B.tells visitors.now.second.now) (view inside.entry.outer.now) (view inside.entry.owner.now)
-        (steps_of inside.entry.path.now) scope (members_view members.now.entries)) }
+    ensures told { IfOk result (λ _. AddsToBoth found.old found.new (A.tells visitors.now.first.now) (B.tells visitors.now.second.now)
+        (λ tells. told_of_members tells (view inside.entry.outer.now) (view inside.entry.owner.now)
+        (steps_of inside.entry.path.now) scope (members_view members.now.entries))) }
     ensures known { IfOk result (λ _. AreMembersKnown (A.Known visitors.now.first.now) scope (members_view members.now.entries)) }
     ensures in_order { IfOk result (λ _. IsTrue (A.is_thorough visitors.now.first.now) → AreMembersInOrder scope (members_view members.now.entries)) }
     ensures sorted { IfOk result (λ _. IsStrictlySortedBy text_cmp (names (members_view members.now.entries))) }
