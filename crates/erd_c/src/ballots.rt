@@ -65,7 +65,8 @@ pub extern "C" fn erd_tell_ballot_differences(
     prefer: &[u8],
     room: &mut [u8],
 ) -> Told
-    ensures { IsCall (λ π. IsBallotDifferencesData π left.now right.now) prefers prefer.now (max (length left.now) (length right.now)) result room.old room.new }
+    ensures { IsCall (λ π. IsBallotDifferencesData π left.now right.now) prefers prefer.now (max (length left.now) (length right.now))
+        result room.old room.new }
 {
     match given(prefers, prefer, left.len().max(right.len())) {
         Ok(prefer) => tell(differences(alloc, left, right, prefer), room),

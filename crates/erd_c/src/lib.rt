@@ -8,7 +8,8 @@
 
 ghost use Rattle.std.specs.Prelude.{length, max};
 ghost use Rattle.erd_canon.specs.DataAnswers.{IsCheckedData, IsComparedData};
-ghost use Rattle.erd_canon.specs.Pieces.{IsCheckLines, IsCheckPiece, IsCompareLines, IsComparePiece, IsFormLines, IsFormPiece, IsListLines, IsListPiece, IsPieceText};
+ghost use Rattle.erd_canon.specs.Pieces.{IsCheckLines, IsCheckPiece, IsCompareLines, IsComparePiece, IsFormLines, IsFormPiece, IsListLines, IsListPiece};
+ghost use Rattle.erd_canon.specs.Pieces.{IsPieceText};
 ghost use Rattle.erd_canon.specs.Run.{IsChecked, IsCompared};
 ghost use Rattle.erd_c.specs.Told.{HasCanonicalText, IsCall, IsPieceCall};
 

@@ -61,11 +61,7 @@ fn prepared(alloc: Global, bytes: &[u8], words: &[u8], others: bool) -> Result<V
 fn others_asked(others: bool) -> Others
     ensures { result ≡ others_asked others }
 {
-    if others {
-        Others::Told
-    } else {
-        Others::Untold
-    }
+    if others { Others::Told } else { Others::Untold }
 }
 
 // The steps that the words name, or the outcome that says why there are none.

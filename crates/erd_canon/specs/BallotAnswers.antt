@@ -48,7 +48,8 @@ IsBallotsData asked π bytes NotJson text = IsRefusalText π bytes NotJson text
 -- ---- the ballots of two reports
 
 -- Both inputs are accepted reports, and this outcome and this text tell of their trees.
-pub record AreBothTold (Tells : Data → Data → Outcome → List ℕ → Type 0) (π : Preference) (left right : List ℕ) (outcome : Outcome) (text : List ℕ) : Type 0 where
+pub record AreBothTold (Tells : Data → Data → Outcome → List ℕ → Type 0) (π : Preference) (left right : List ℕ) (outcome : Outcome)
+    (text : List ℕ) : Type 0 where
   pub left_tree : Data
   pub right_tree : Data
   pub left_accepted : IsAcceptedReport π left left_tree

@@ -1,6 +1,7 @@
 -- What the engines that prepare a report write for given bytes, and what a run of them does to its devices. All of this is the
 -- program's own.
-use Rattle.std.specs.Prelude.{◌≡◌, ◌≢◌, ◌↔◌, ◌⊎◌, ◌+◌, ◌++◌, ◌<◌, ◌≤◌, ℕ, zero, suc, List, [], ◌∷◌, Option, true, Result, Err, IfOk, IfErr, IsErrOf, OnOk, codes, decimal, length, unwrap_or}
+use Rattle.std.specs.Prelude.{◌≡◌, ◌≢◌, ◌↔◌, ◌⊎◌, ◌+◌, ◌++◌, ◌<◌, ◌≤◌, ℕ, zero, suc, List, [], ◌∷◌, Option, true, Result, Err, IfOk, IfErr, IsErrOf, OnOk}
+use Rattle.std.specs.Prelude.{codes, decimal, length, unwrap_or}
 use Rattle.std.specs.List.{flat_map}
 use Rattle.std.specs.Io.KnownBytes.{Appends}
 use Rattle.serde_json.specs.Data.{Data}
@@ -109,7 +110,8 @@ IsPreparationTold chosen bytes outcome out err =
     (IsNotJson bytes × AreNotJsonTexts outcome out err) ⊎ ((file : PreparedBytes) × IsPrepared bytes chosen Told file × AreToldTexts file outcome out err)
 
 -- The run on the input ends with this outcome. If the bytes of the writers are known, its texts were written, and nothing else.
-pub record AreTextsWritten (Answers : List ℕ → Outcome → List ℕ → List ℕ → Type 0) (bytes : List ℕ) (outcome : Outcome) (out_before out_after err_before err_after : Option (List ℕ)) : Type 0 where
+pub record AreTextsWritten (Answers : List ℕ → Outcome → List ℕ → List ℕ → Type 0) (bytes : List ℕ) (outcome : Outcome)
+    (out_before out_after err_before err_after : Option (List ℕ)) : Type 0 where
   pub out_text : List ℕ
   pub err_text : List ℕ
   pub answers : Answers bytes outcome out_text err_text
@@ -118,7 +120,8 @@ pub record AreTextsWritten (Answers : List ℕ → Outcome → List ℕ → List
 
 -- The run on the input has these texts. If the bytes of the writers are known, a first part of its text was written to each, and
 -- nothing else.
-pub record AreTextsPartWritten (Answers : List ℕ → Outcome → List ℕ → List ℕ → Type 0) (bytes : List ℕ) (out_before out_after err_before err_after : Option (List ℕ)) : Type 0 where
+pub record AreTextsPartWritten (Answers : List ℕ → Outcome → List ℕ → List ℕ → Type 0) (bytes : List ℕ)
+    (out_before out_after err_before err_after : Option (List ℕ)) : Type 0 where
   pub outcome : Outcome
   pub out_text : List ℕ
   pub err_text : List ℕ
@@ -136,27 +139,31 @@ pub record AreTextsWith (Answers : List ℕ → Outcome → List ℕ → List �
 
 -- If the bytes of the devices are known: the reader was read to its end within the limit, and the texts for its bytes were
 -- written, and nothing else.
-pub record AreWholeTexts (Answers : List ℕ → Outcome → List ℕ → List ℕ → Type 0) (limit : ℕ) (outcome : Outcome) (before after out_before out_after err_before err_after : Option (List ℕ)) : Type 0 where
+pub record AreWholeTexts (Answers : List ℕ → Outcome → List ℕ → List ℕ → Type 0) (limit : ℕ) (outcome : Outcome)
+    (before after out_before out_after err_before err_after : Option (List ℕ)) : Type 0 where
   pub input : List ℕ
   pub whole : IsReadWhole limit before after input
   pub written : AreTextsWritten Answers input outcome out_before out_after err_before err_after
 
 -- If the bytes of the devices are known: the reader was read to its end within the limit, and a first part of each text for its
 -- bytes was written, and nothing else.
-pub record AreBrokenTexts (Answers : List ℕ → Outcome → List ℕ → List ℕ → Type 0) (limit : ℕ) (before after out_before out_after err_before err_after : Option (List ℕ)) : Type 0 where
+pub record AreBrokenTexts (Answers : List ℕ → Outcome → List ℕ → List ℕ → Type 0) (limit : ℕ)
+    (before after out_before out_after err_before err_after : Option (List ℕ)) : Type 0 where
   pub input : List ℕ
   pub whole : IsReadWhole limit before after input
   pub written : AreTextsPartWritten Answers input out_before out_after err_before err_after
 
 -- If the bytes of the reader are known: it was read to its end within the limit, and the texts for its bytes are such that this
 -- holds of them.
-pub record IsReadWith (Answers : List ℕ → Outcome → List ℕ → List ℕ → Type 0) (Holds : List ℕ → List ℕ → Type 0) (limit : ℕ) (before after : Option (List ℕ)) : Type 0 where
+pub record IsReadWith (Answers : List ℕ → Outcome → List ℕ → List ℕ → Type 0) (Holds : List ℕ → List ℕ → Type 0) (limit : ℕ)
+    (before after : Option (List ℕ)) : Type 0 where
   pub input : List ℕ
   pub whole : IsReadWhole limit before after input
   pub texts : AreTextsWith Answers Holds input
 
 -- A report was read, and the two texts for its bytes were written, with this answer.
-pub record IsTextsRun {S O E : Type 0} (source : Reader S) (sink : Writer O) (errors : Writer E) (Answers : List ℕ → Outcome → List ℕ → List ℕ → Type 0) (answer : Result Outcome RunFault) (reader : BeforeAfter S) (out : BeforeAfter O) (err : BeforeAfter E) : Type 0 where
+pub record IsTextsRun {S O E : Type 0} (source : Reader S) (sink : Writer O) (errors : Writer E) (Answers : List ℕ → Outcome → List ℕ → List ℕ → Type 0)
+    (answer : Result Outcome RunFault) (reader : BeforeAfter S) (out : BeforeAfter O) (err : BeforeAfter E) : Type 0 where
   -- What an outcome means.
   pub whole : IfOk answer (λ outcome. AreWholeTexts Answers most_bytes outcome (source.remaining reader.before) (source.remaining reader.after)
       (sink.contents out.before) (sink.contents out.after) (errors.contents err.before) (errors.contents err.after))

@@ -16,7 +16,8 @@ use Rattle.erd_program.specs.World.{Outside}
 
 -- The outside did not give something. The program wrote nothing but these words, or that it is out of memory, to standard
 -- error.
-pub record IsRefused {O E : Type 0} (errors : Writer E) (words : List ℕ) (fault : WorldFault) (status : ℕ) (out : BeforeAfter O) (err : BeforeAfter E) : Type 0 where
+pub record IsRefused {O E : Type 0} (errors : Writer E) (words : List ℕ) (fault : WorldFault) (status : ℕ) (out : BeforeAfter O)
+    (err : BeforeAfter E) : Type 0 where
   pub status_is : status ≡ world_status fault
   pub said : IsSaid errors (world_text words fault) err
   pub quiet : out.after ≡ out.before
@@ -28,7 +29,8 @@ IsUnopened errors name fault status out err =
     IsRefused errors (unopened_words name) fault status out err ⊎ IsRefused errors (unopened_words name) Memory status out err
 
 -- Standard input was canonicalised with no preference, and the program ended with the answer.
-pub record IsInputCanonicalised {F File I O E : Type 0} (known : Outside F File I O E) (status : ℕ) (input : BeforeAfter I) (out : BeforeAfter O) (err : BeforeAfter E) : Type 0 where
+pub record IsInputCanonicalised {F File I O E : Type 0} (known : Outside F File I O E) (status : ℕ) (input : BeforeAfter I) (out : BeforeAfter O)
+    (err : BeforeAfter E) : Type 0 where
   pub answer : Result Outcome RunFault
   -- standard error as the engine left it
   pub err_left : E
@@ -37,39 +39,49 @@ pub record IsInputCanonicalised {F File I O E : Type 0} (known : Outside F File 
   pub told : IsTold known.err answer (between err_left err.after)
 
 -- The engine checked the file under the preference.
-abbrev pub IsFileChecked : {F File I O E : Type 0} → Preference → Outside F File I O E → Result Outcome RunFault → BeforeAfter File → BeforeAfter O → BeforeAfter E → Type 0
+abbrev pub IsFileChecked : {F File I O E : Type 0} → Preference → Outside F File I O E → Result Outcome RunFault → BeforeAfter File → BeforeAfter O
+    → BeforeAfter E → Type 0
 IsFileChecked prefer known answer file out err = IsCheckRun known.file known.out prefer answer file out × (err.after ≡ err.before)
 
 -- The engine canonicalised the file under the preference.
-abbrev pub IsFileCanonicalised : {F File I O E : Type 0} → Preference → Outside F File I O E → Result Outcome RunFault → BeforeAfter File → BeforeAfter O → BeforeAfter E → Type 0
+abbrev pub IsFileCanonicalised : {F File I O E : Type 0} → Preference → Outside F File I O E → Result Outcome RunFault → BeforeAfter File → BeforeAfter O
+    → BeforeAfter E → Type 0
 IsFileCanonicalised prefer known answer file out err = IsCanonRun known.file known.out known.err prefer answer file out err
 
 -- The engine checked the file under the preference, with JSON as the answer.
-abbrev pub IsFileCheckedAsData : {F File I O E : Type 0} → Preference → Outside F File I O E → Result Outcome RunFault → BeforeAfter File → BeforeAfter O → BeforeAfter E → Type 0
+abbrev pub IsFileCheckedAsData : {F File I O E : Type 0} → Preference → Outside F File I O E → Result Outcome RunFault → BeforeAfter File → BeforeAfter O
+    → BeforeAfter E → Type 0
 IsFileCheckedAsData prefer known answer file out err = IsReportRun known.file known.out (IsCheckLine prefer) answer file out × (err.after ≡ err.before)
 
 -- The engine listed the ballots of the file under the preference, a line each.
-abbrev pub AreBallotsListed : {F File I O E : Type 0} → Preference → Outside F File I O E → Result Outcome RunFault → BeforeAfter File → BeforeAfter O → BeforeAfter E → Type 0
+abbrev pub AreBallotsListed : {F File I O E : Type 0} → Preference → Outside F File I O E → Result Outcome RunFault → BeforeAfter File → BeforeAfter O
+    → BeforeAfter E → Type 0
 AreBallotsListed prefer known answer file out err = IsReportRun known.file known.out (IsBallotLines prefer) answer file out × (err.after ≡ err.before)
 
 -- The engine listed the ballots of the file under the preference, with JSON as the answer.
-abbrev pub AreBallotsListedAsData : {F File I O E : Type 0} → Preference → Outside F File I O E → Result Outcome RunFault → BeforeAfter File → BeforeAfter O → BeforeAfter E → Type 0
+abbrev pub AreBallotsListedAsData : {F File I O E : Type 0} → Preference → Outside F File I O E → Result Outcome RunFault → BeforeAfter File → BeforeAfter O
+    → BeforeAfter E → Type 0
 AreBallotsListedAsData prefer known answer file out err = IsReportRun known.file known.out (IsBallotsLine prefer) answer file out × (err.after ≡ err.before)
 
 -- The engine prepared the file by the chosen steps, and judged what came of it under the preference.
-abbrev pub IsFilePrepared : {F File I O E : Type 0} → Preference → List StepName → Outside F File I O E → Result Outcome RunFault → BeforeAfter File → BeforeAfter O → BeforeAfter E → Type 0
+abbrev pub IsFilePrepared : {F File I O E : Type 0} → Preference → List StepName → Outside F File I O E → Result Outcome RunFault → BeforeAfter File
+    → BeforeAfter O → BeforeAfter E → Type 0
 IsFilePrepared prefer chosen known answer file out err = IsTextsRun known.file known.out known.err (IsPreparedAs prefer chosen) answer file out err
 
 -- The engine tried each step on the file.
-abbrev pub IsEachStepTried : {F File I O E : Type 0} → Outside F File I O E → Result Outcome RunFault → BeforeAfter File → BeforeAfter O → BeforeAfter E → Type 0
+abbrev pub IsEachStepTried : {F File I O E : Type 0} → Outside F File I O E → Result Outcome RunFault → BeforeAfter File → BeforeAfter O
+    → BeforeAfter E → Type 0
 IsEachStepTried known answer file out err = IsTextsRun known.file known.out known.err AreStepsListed answer file out err
 
 -- The engine prepared the file by the chosen steps, with what they did as the answer.
-abbrev pub IsPreparationReported : {F File I O E : Type 0} → List StepName → Outside F File I O E → Result Outcome RunFault → BeforeAfter File → BeforeAfter O → BeforeAfter E → Type 0
+abbrev pub IsPreparationReported : {F File I O E : Type 0} → List StepName → Outside F File I O E → Result Outcome RunFault → BeforeAfter File → BeforeAfter O
+    → BeforeAfter E → Type 0
 IsPreparationReported chosen known answer file out err = IsTextsRun known.file known.out known.err (IsPreparationTold chosen) answer file out err
 
 -- The engine ran on the file, and the file was closed as the engine left it. The program ended with the answer.
-pub record IsFileDone {F File I O E : Type 0} (known : Outside F File I O E) (Run : Outside F File I O E → Result Outcome RunFault → BeforeAfter File → BeforeAfter O → BeforeAfter E → Type 0) (name : List ℕ) (file : File) (status : ℕ) (closed : BeforeAfter (List (List ℕ × File))) (out : BeforeAfter O) (err : BeforeAfter E) : Type 0 where
+pub record IsFileDone {F File I O E : Type 0} (known : Outside F File I O E)
+    (Run : Outside F File I O E → Result Outcome RunFault → BeforeAfter File → BeforeAfter O → BeforeAfter E → Type 0) (name : List ℕ) (file : File)
+    (status : ℕ) (closed : BeforeAfter (List (List ℕ × File))) (out : BeforeAfter O) (err : BeforeAfter E) : Type 0 where
   pub answer : Result Outcome RunFault
   pub file_left : File
   pub err_left : E
@@ -79,31 +91,39 @@ pub record IsFileDone {F File I O E : Type 0} (known : Outside F File I O E) (Ru
   pub told : IsTold known.err answer (between err_left err.after)
 
 -- The engine compared the two files under the preference, with a line as the answer.
-abbrev pub AreFilesCompared : {F File I O E : Type 0} → Preference → Outside F File I O E → Result Outcome RunFault → BeforeAfter File → BeforeAfter File → BeforeAfter O → Type 0
+abbrev pub AreFilesCompared : {F File I O E : Type 0} → Preference → Outside F File I O E → Result Outcome RunFault → BeforeAfter File → BeforeAfter File
+    → BeforeAfter O → Type 0
 AreFilesCompared prefer known answer left right out = IsCompareRun known.file known.file known.out prefer answer left right out
 
 -- The engine compared the two files under the preference, with JSON as the answer.
-abbrev pub AreFilesComparedAsData : {F File I O E : Type 0} → Preference → Outside F File I O E → Result Outcome RunFault → BeforeAfter File → BeforeAfter File → BeforeAfter O → Type 0
+abbrev pub AreFilesComparedAsData : {F File I O E : Type 0} → Preference → Outside F File I O E → Result Outcome RunFault → BeforeAfter File → BeforeAfter File
+    → BeforeAfter O → Type 0
 AreFilesComparedAsData prefer known answer left right out = IsPairRun known.file known.file known.out (IsCompareLine prefer) answer left right out
 
 -- The engine listed the differences of the two files under the preference, a line each.
-abbrev pub AreFilesListed : {F File I O E : Type 0} → Preference → Outside F File I O E → Result Outcome RunFault → BeforeAfter File → BeforeAfter File → BeforeAfter O → Type 0
+abbrev pub AreFilesListed : {F File I O E : Type 0} → Preference → Outside F File I O E → Result Outcome RunFault → BeforeAfter File → BeforeAfter File
+    → BeforeAfter O → Type 0
 AreFilesListed prefer known answer left right out = IsPairRun known.file known.file known.out (IsListed prefer) answer left right out
 
 -- The engine listed the differences of the two files under the preference, with JSON as the answer.
-abbrev pub AreFilesListedAsData : {F File I O E : Type 0} → Preference → Outside F File I O E → Result Outcome RunFault → BeforeAfter File → BeforeAfter File → BeforeAfter O → Type 0
+abbrev pub AreFilesListedAsData : {F File I O E : Type 0} → Preference → Outside F File I O E → Result Outcome RunFault → BeforeAfter File → BeforeAfter File
+    → BeforeAfter O → Type 0
 AreFilesListedAsData prefer known answer left right out = IsPairRun known.file known.file known.out (IsListLine prefer) answer left right out
 
 -- The engine listed the ballots on which the two files differ under the preference, a line each.
-abbrev pub AreBallotsCompared : {F File I O E : Type 0} → Preference → Outside F File I O E → Result Outcome RunFault → BeforeAfter File → BeforeAfter File → BeforeAfter O → Type 0
+abbrev pub AreBallotsCompared : {F File I O E : Type 0} → Preference → Outside F File I O E → Result Outcome RunFault → BeforeAfter File → BeforeAfter File
+    → BeforeAfter O → Type 0
 AreBallotsCompared prefer known answer left right out = IsPairRun known.file known.file known.out (IsBallotDifferenceLines prefer) answer left right out
 
 -- The engine listed the ballots on which the two files differ under the preference, with JSON as the answer.
-abbrev pub AreBallotsComparedAsData : {F File I O E : Type 0} → Preference → Outside F File I O E → Result Outcome RunFault → BeforeAfter File → BeforeAfter File → BeforeAfter O → Type 0
+abbrev pub AreBallotsComparedAsData : {F File I O E : Type 0} → Preference → Outside F File I O E → Result Outcome RunFault → BeforeAfter File
+    → BeforeAfter File → BeforeAfter O → Type 0
 AreBallotsComparedAsData prefer known answer left right out = IsPairRun known.file known.file known.out (IsBallotDifferencesLine prefer) answer left right out
 
 -- The engine ran on the two files, and they were closed as the engine left them. The program ended with the answer.
-pub record AreFilesDone {F File I O E : Type 0} (known : Outside F File I O E) (Run : Outside F File I O E → Result Outcome RunFault → BeforeAfter File → BeforeAfter File → BeforeAfter O → Type 0) (left_name right_name : List ℕ) (left right : File) (status : ℕ) (closed : BeforeAfter (List (List ℕ × File))) (out : BeforeAfter O) (err : BeforeAfter E) : Type 0 where
+pub record AreFilesDone {F File I O E : Type 0} (known : Outside F File I O E)
+    (Run : Outside F File I O E → Result Outcome RunFault → BeforeAfter File → BeforeAfter File → BeforeAfter O → Type 0) (left_name right_name : List ℕ)
+    (left right : File) (status : ℕ) (closed : BeforeAfter (List (List ℕ × File))) (out : BeforeAfter O) (err : BeforeAfter E) : Type 0 where
   pub answer : Result Outcome RunFault
   pub left_left : File
   pub right_left : File
@@ -113,14 +133,18 @@ pub record AreFilesDone {F File I O E : Type 0} (known : Outside F File I O E) (
   pub told : IsTold known.err answer err
 
 -- What is done for a command on one file, by what opening the file gave.
-abbrev pub IsFileAnswer : {F File I O E : Type 0} → Outside F File I O E → (Outside F File I O E → Result Outcome RunFault → BeforeAfter File → BeforeAfter O → BeforeAfter E → Type 0) → List ℕ → Result File WorldFault → ℕ → BeforeAfter (List (List ℕ × File)) → BeforeAfter O → BeforeAfter E → Type 0
+abbrev pub IsFileAnswer : {F File I O E : Type 0} → Outside F File I O E
+    → (Outside F File I O E → Result Outcome RunFault → BeforeAfter File → BeforeAfter O → BeforeAfter E → Type 0) → List ℕ → Result File WorldFault → ℕ
+    → BeforeAfter (List (List ℕ × File)) → BeforeAfter O → BeforeAfter E → Type 0
 IsFileAnswer known Run name (Ok file) status closed out err = IsFileDone known Run name file status closed out err
 IsFileAnswer known Run name (Err fault) status closed out err =
     (closed.after ≡ closed.before) × IsUnopened known.err name fault status out err
 
 -- What is done for a command on two files, by what opening the left file and then the right one gave. If one of them could not be
 -- opened, the other one was closed as it was.
-abbrev pub IsPairAnswer : {F File I O E : Type 0} → Outside F File I O E → (Outside F File I O E → Result Outcome RunFault → BeforeAfter File → BeforeAfter File → BeforeAfter O → Type 0) → List ℕ → List ℕ → Result File WorldFault → Result File WorldFault → ℕ → BeforeAfter (List (List ℕ × File)) → BeforeAfter O → BeforeAfter E → Type 0
+abbrev pub IsPairAnswer : {F File I O E : Type 0} → Outside F File I O E
+    → (Outside F File I O E → Result Outcome RunFault → BeforeAfter File → BeforeAfter File → BeforeAfter O → Type 0) → List ℕ → List ℕ → Result File WorldFault
+    → Result File WorldFault → ℕ → BeforeAfter (List (List ℕ × File)) → BeforeAfter O → BeforeAfter E → Type 0
 IsPairAnswer known Run left right (Ok a) (Ok b) status closed out err = AreFilesDone known Run left right a b status closed out err
 IsPairAnswer known Run left right (Ok a) (Err fault) status closed out err =
     (closed.after ≡ closed.before ++ (left, a) ∷ []) × IsUnopened known.err right fault status out err

@@ -63,7 +63,8 @@ beside_data left right rows = object (member (codes "left") left (member (codes 
 -- and so do the selections inside it; what a ballot lists several times is told apart by the number of the occurrence.
 pub record AreBeside (π : Preference) (t d : Data) (ρ : Preference) (u e : Data) (told : Data) : Type 0 where
   pub rows : List (Row × Beside)
-  pub are_rows : AreRows (partners (eq_by_cmp thing_cmp) (things_of π t d) (things_of ρ u e)) (partners (eq_by_cmp thing_cmp) (things_of ρ u e) (things_of π t d)) (map (λ r. r.0) rows)
+  pub are_rows : AreRows (partners (eq_by_cmp thing_cmp) (things_of π t d) (things_of ρ u e))
+      (partners (eq_by_cmp thing_cmp) (things_of ρ u e) (things_of π t d)) (map (λ r. r.0) rows)
   pub inside : AllByRecursion (IsInside (AreSelectionsAt π t (lines_of d) ρ u (lines_of e))) rows
   pub tells : told ≡ beside_data (lines_data π t d) (lines_data ρ u e) rows
 

@@ -3,7 +3,8 @@ ghost use Rattle.std.specs.List.{filter_map};
 ghost use Rattle.serde_json.specs.View.{view};
 ghost use Rattle.serde_json.specs.Written.{compact_text};
 ghost use Rattle.erd_text.specs.Tokens.{members_tokens, value_tokens};
-ghost use Rattle.erd_shown.specs.BallotDifferences.{AreBallotDifferences, AreStyleRows, is_same_ballot, of_style, right_members, style_data, styles_data, told_of_both, told_of_left, told_of_right, told_of_row};
+ghost use Rattle.erd_shown.specs.BallotDifferences.{AreBallotDifferences, AreStyleRows, is_same_ballot, of_style, right_members, style_data, styles_data};
+ghost use Rattle.erd_shown.specs.BallotDifferences.{told_of_both, told_of_left, told_of_right, told_of_row};
 ghost use Rattle.erd_shown.specs.code.LineLists.{of_place};
 
 use crate::ballots::ballot_text;
@@ -50,7 +51,8 @@ pub fn differing_ballots<'a>(
     left: &'a Report,
     right: &'a Report,
 ) -> Result<Vec<BallotDifference<'a>>, AllocError>
-    ensures { IfOk result (λ found. AreBallotDifferences left.now.prefer (view left.now.tree) right.now.prefer (view right.now.tree) (map of_style found.items)) }
+    ensures { IfOk result (λ found. AreBallotDifferences left.now.prefer (view left.now.tree) right.now.prefer (view right.now.tree)
+        (map of_style found.items)) }
 {
     let ones = left.rising_keys(alloc, Family::Style)?;
     let others = right.rising_keys(alloc, Family::Style)?;
@@ -110,7 +112,8 @@ fn told_of_rows<'a>(
     rows: &[Row],
 ) -> Result<Vec<BallotDifference<'a>>, AllocError>
     ensures { IfOk result (λ found. map of_style found.items
-        ≡ filter_map (told_of_row (is_same_ballot left.now.prefer (view left.now.tree) right.now.prefer (view right.now.tree)) (map of_place ones.now) (map of_place others.now)) rows.now) }
+        ≡ filter_map (told_of_row (is_same_ballot left.now.prefer (view left.now.tree) right.now.prefer (view right.now.tree)) (map of_place ones.now)
+        (map of_place others.now)) rows.now) }
 {
     let mut found = Vec::new(alloc);
     for row in rows {
@@ -143,7 +146,8 @@ fn told_of_row<'a>(
     row: &Row,
 ) -> Result<Option<BallotDifference<'a>>, AllocError>
     ensures { IfOk result (λ found. option_map of_style found
-        ≡ told_of_row (is_same_ballot left.now.prefer (view left.now.tree) right.now.prefer (view right.now.tree)) (map of_place ones.now) (map of_place others.now) row.now) }
+        ≡ told_of_row (is_same_ballot left.now.prefer (view left.now.tree) right.now.prefer (view right.now.tree)) (map of_place ones.now)
+        (map of_place others.now) row.now) }
 {
     match *row {
         Row::Both(one, other) => {
@@ -178,7 +182,8 @@ fn told_of_both<'a>(
     other: Option<Place<'a>>,
 ) -> Result<Option<BallotDifference<'a>>, AllocError>
     ensures { IfOk result (λ found. option_map of_style found
-        ≡ told_of_both (is_same_ballot left.now.prefer (view left.now.tree) right.now.prefer (view right.now.tree)) (option_map of_place one.entry) (option_map of_place other.entry)) }
+        ≡ told_of_both (is_same_ballot left.now.prefer (view left.now.tree) right.now.prefer (view right.now.tree)) (option_map of_place one.entry)
+        (option_map of_place other.entry)) }
 {
     match one {
         Some(one) => match other {
@@ -198,7 +203,8 @@ fn told_of_pair<'a>(
     other: Place<'a>,
 ) -> Result<Option<BallotDifference<'a>>, AllocError>
     ensures { IfOk result (λ found. option_map of_style found
-        ≡ told_of_both (is_same_ballot left.now.prefer (view left.now.tree) right.now.prefer (view right.now.tree)) (Some (of_place one.entry)) (Some (of_place other.entry))) }
+        ≡ told_of_both (is_same_ballot left.now.prefer (view left.now.tree) right.now.prefer (view right.now.tree)) (Some (of_place one.entry))
+        (Some (of_place other.entry))) }
 {
     if is_same_ballot(alloc, left, one.1, right, other.1)? {
         Ok(None)

@@ -32,7 +32,8 @@ pub(crate) fn selections_beside<'a>(
     right: &'a Report,
     other: &Value,
 ) -> Result<SelectionRows<'a>, AllocError>
-    ensures { IfOk result (λ found. AreSelections left.now.prefer (view left.now.tree) (view one.now) right.now.prefer (view right.now.tree) (view other.now) (of_selections found)) }
+    ensures { IfOk result (λ found. AreSelections left.now.prefer (view left.now.tree) (view one.now) right.now.prefer (view right.now.tree) (view other.now)
+        (of_selections found)) }
 {
     let both_listed = are_listed(one, other);
     let lefts = names_for(alloc, left, one, both_listed)?;

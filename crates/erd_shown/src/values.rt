@@ -45,7 +45,8 @@ pub(crate) fn write_shown(
     out: &mut Output,
 ) -> Result<(), AllocError>
     requires keyed { names_keys kind ≡ true }
-    ensures { OnOk result (has_float (view value.now) ≡ false → (d : Data) → shown_value report.now.prefer (view report.now.tree) kind (view value.now) ≡ Some d → out.new ≡ out.old ++ value_tokens d) }
+    ensures { OnOk result (has_float (view value.now) ≡ false → (d : Data) → shown_value report.now.prefer (view report.now.tree) kind (view value.now) ≡ Some d
+        → out.new ≡ out.old ++ value_tokens d) }
 {
     match kind {
         MemberKind::Label => write_label(alloc, value, out),

@@ -6,7 +6,8 @@ use Rattle.erd_canon.specs.declared.data.piece.Piece.{Piece}
 use Rattle.erd_canon.specs.declared.data.piece.Told.{Told as PieceTold}
 use Rattle.erd_canon.specs.declared.engines.outcome.Outcome.{Outcome}
 use Rattle.erd_c.specs.declared.questions.Question.{Question}
-use Rattle.erd_c.specs.declared.questions.Question.TheVariants.{CanonicalData, CanonicalLines, CheckData, CheckLines, CompareData, CompareLines, DifferencesData, DifferencesLines}
+use Rattle.erd_c.specs.declared.questions.Question.TheVariants.{CanonicalData, CanonicalLines, CheckData, CheckLines, CompareData, CompareLines}
+use Rattle.erd_c.specs.declared.questions.Question.TheVariants.{DifferencesData, DifferencesLines}
 
 -- What the answers are.
 abbrev pub answers_of : Question → Preference → Piece → Outcome → PieceTold → List ℕ → Type 0

@@ -102,7 +102,8 @@ pub(crate) fn ballots_of_both(
     prefer: Option<&str>,
     form: PairForm,
 ) -> Result<(Outcome, String), Side>
-    ensures told { IfOk result (λ it. AreBothTold (pair_tells form (option_copied prefer.entry)) (option_copied prefer.entry) left.now right.now it.0 (string_bytes it.1)) }
+    ensures told { IfOk result (λ it. AreBothTold (pair_tells form (option_copied prefer.entry)) (option_copied prefer.entry) left.now right.now
+        it.0 (string_bytes it.1)) }
     ensures refused { IfErr result (RefusedSide (option_copied prefer.entry) left.now right.now) }
 {
     let left_tree = left_tree_of(alloc, left)?;

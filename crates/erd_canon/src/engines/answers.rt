@@ -1,7 +1,9 @@
 //! The engines that answer with one text, which is in memory as a whole before it is written.
 
 ghost use Rattle.std.specs.Prelude.{◌≡◌, ◌⊎◌, false, true, map, string_bytes, Err, IfErr, IfOk, OnOk, option_copied};
-ghost use Rattle.erd_canon.specs.Words.{between, difference_line, listing_lines, listing_outcome, text_of_lines, Appends, IsCheckLine, IsCompareLine, IsListed, IsListLine, IsPairPartWritten, IsPairRun, IsPairWritten, IsPartWritten, IsReportPartWritten, IsReportRun, IsReportWritten};
+ghost use Rattle.erd_canon.specs.Words.{between, difference_line, listing_lines, listing_outcome, text_of_lines, Appends, IsCheckLine, IsCompareLine, IsListed};
+ghost use Rattle.erd_canon.specs.Words.{IsListLine, IsPairPartWritten, IsPairRun, IsPairWritten, IsPartWritten, IsReportPartWritten, IsReportRun};
+ghost use Rattle.erd_canon.specs.Words.{IsReportWritten};
 
 use crate::bytes::differences::differences_of;
 use crate::bytes::refusal::Side;
@@ -55,11 +57,13 @@ pub(crate) fn write_check_data<O: Sink>(
     prefer: Option<&str>,
 ) -> Result<Outcome, RunFault>
     requires { O.writer.has_failed out.old ≡ false }
-    ensures written { IfOk result (λ outcome. IsReportWritten (IsCheckLine (option_copied prefer.entry)) bytes.now outcome (O.writer.contents out.old) (O.writer.contents out.new)) }
+    ensures written { IfOk result (λ outcome. IsReportWritten (IsCheckLine (option_copied prefer.entry)) bytes.now outcome (O.writer.contents out.old)
+        (O.writer.contents out.new)) }
     ensures flushed { OnOk result (O.writer.is_flushed out.new ≡ true) }
     ensures works { OnOk result (O.writer.has_failed out.new ≡ false) }
     ensures memory { result ≡ Err RunFault.Memory → out.new ≡ out.old }
-    ensures broken { result ≡ Err RunFault.Write → IsReportPartWritten (IsCheckLine (option_copied prefer.entry)) bytes.now (O.writer.contents out.old) (O.writer.contents out.new) }
+    ensures broken { result ≡ Err RunFault.Write → IsReportPartWritten (IsCheckLine (option_copied prefer.entry)) bytes.now (O.writer.contents out.old)
+        (O.writer.contents out.new) }
     ensures write { result ≡ Err RunFault.Write → O.writer.has_failed out.new ≡ true }
     ensures faults { IfErr result (λ fault. (fault ≡ RunFault.Memory) ⊎ (fault ≡ RunFault.Write)) }
 {
@@ -179,7 +183,8 @@ pub(crate) fn write_compare_data<O: Sink>(
     prefer: Option<&str>,
 ) -> Result<Outcome, RunFault>
     requires { O.writer.has_failed out.old ≡ false }
-    ensures written { IfOk result (λ outcome. IsPairWritten (IsCompareLine (option_copied prefer.entry)) left.now right.now outcome (O.writer.contents out.old) (O.writer.contents out.new)) }
+    ensures written { IfOk result (λ outcome. IsPairWritten (IsCompareLine (option_copied prefer.entry)) left.now right.now outcome (O.writer.contents out.old)
+        (O.writer.contents out.new)) }
     ensures flushed { OnOk result (O.writer.is_flushed out.new ≡ true) }
     ensures works { OnOk result (O.writer.has_failed out.new ≡ false) }
     ensures memory { result ≡ Err RunFault.Memory → out.new ≡ out.old }
@@ -203,7 +208,8 @@ pub(crate) fn write_differences_data<O: Sink>(
     prefer: Option<&str>,
 ) -> Result<Outcome, RunFault>
     requires { O.writer.has_failed out.old ≡ false }
-    ensures written { IfOk result (λ outcome. IsPairWritten (IsListLine (option_copied prefer.entry)) left.now right.now outcome (O.writer.contents out.old) (O.writer.contents out.new)) }
+    ensures written { IfOk result (λ outcome. IsPairWritten (IsListLine (option_copied prefer.entry)) left.now right.now outcome (O.writer.contents out.old)
+        (O.writer.contents out.new)) }
     ensures flushed { OnOk result (O.writer.is_flushed out.new ≡ true) }
     ensures works { OnOk result (O.writer.has_failed out.new ≡ false) }
     ensures memory { result ≡ Err RunFault.Memory → out.new ≡ out.old }
@@ -227,7 +233,8 @@ pub(crate) fn write_listed<O: Sink>(
     prefer: Option<&str>,
 ) -> Result<Outcome, RunFault>
     requires { O.writer.has_failed out.old ≡ false }
-    ensures written { IfOk result (λ outcome. IsPairWritten (IsListed (option_copied prefer.entry)) left.now right.now outcome (O.writer.contents out.old) (O.writer.contents out.new)) }
+    ensures written { IfOk result (λ outcome. IsPairWritten (IsListed (option_copied prefer.entry)) left.now right.now outcome (O.writer.contents out.old)
+        (O.writer.contents out.new)) }
     ensures flushed { OnOk result (O.writer.is_flushed out.new ≡ true) }
     ensures works { OnOk result (O.writer.has_failed out.new ≡ false) }
     ensures memory { result ≡ Err RunFault.Memory → out.new ≡ out.old }
@@ -253,7 +260,8 @@ fn write_found<O: Sink>(
 ) -> Result<Outcome, RunFault>
     requires { O.writer.has_failed out.old ≡ false }
     ensures outcome { IfOk result (λ outcome. outcome ≡ listing_outcome found.now) }
-    ensures wrote { OnOk result (Appends (O.writer.contents out.old) (O.writer.contents out.new) (text_of_lines (listing_lines (map (λ d. d.difference) found.now)))) }
+    ensures wrote { OnOk result (Appends (O.writer.contents out.old) (O.writer.contents out.new)
+        (text_of_lines (listing_lines (map (λ d. d.difference) found.now)))) }
     ensures flushed { OnOk result (O.writer.is_flushed out.new ≡ true) }
     ensures works { OnOk result (O.writer.has_failed out.new ≡ false) }
     ensures memory { result ≡ Err RunFault.Memory → out.new ≡ out.old }

@@ -1,7 +1,8 @@
 //! The commands that answer with one text: what is read for each, and what is written.
 
 ghost use Rattle.std.specs.Prelude.{◌≡◌, ◌⊎◌, ◌∷◌, ◌++◌, [], false, true, string_bytes, Err, IfErr, IfOk, OnOk, option_copied};
-ghost use Rattle.erd_canon.specs.Words.{between, Appends, IsPairPartWritten, IsPairRun, IsPairWritten, IsPartWritten, IsReportPartWritten, IsReportRun, IsReportWritten};
+ghost use Rattle.erd_canon.specs.Words.{between, Appends, IsPairPartWritten, IsPairRun, IsPairWritten, IsPartWritten, IsReportPartWritten, IsReportRun};
+ghost use Rattle.erd_canon.specs.Words.{IsReportWritten};
 ghost use Rattle.erd_canon.specs.code.AskedCommands.{pair_answers, report_answers};
 
 use crate::data::check::Answer;
@@ -45,7 +46,8 @@ pub(crate) fn run_report<S: Source, O: Sink>(
 ) -> Result<Outcome, RunFault>
     requires reader_works { S.reader.has_failed reader.old ≡ false }
     requires out_works { O.writer.has_failed out.old ≡ false }
-    ensures { IsReportRun S.reader O.writer (report_answers command (option_copied prefer.entry)) result (between reader.old reader.new) (between out.old out.new) }
+    ensures { IsReportRun S.reader O.writer (report_answers command (option_copied prefer.entry)) result (between reader.old reader.new)
+        (between out.old out.new) }
 {
     let bytes = read_all(alloc, reader)?;
     write_report(alloc, bytes.as_slice(), out, command, prefer)
@@ -60,11 +62,13 @@ fn write_report<O: Sink>(
     prefer: Option<&str>,
 ) -> Result<Outcome, RunFault>
     requires { O.writer.has_failed out.old ≡ false }
-    ensures written { IfOk result (λ outcome. IsReportWritten (report_answers command (option_copied prefer.entry)) bytes.now outcome (O.writer.contents out.old) (O.writer.contents out.new)) }
+    ensures written { IfOk result (λ outcome. IsReportWritten (report_answers command (option_copied prefer.entry)) bytes.now outcome
+        (O.writer.contents out.old) (O.writer.contents out.new)) }
     ensures flushed { OnOk result (O.writer.is_flushed out.new ≡ true) }
     ensures works { OnOk result (O.writer.has_failed out.new ≡ false) }
     ensures memory { result ≡ Err RunFault.Memory → out.new ≡ out.old }
-    ensures broken { result ≡ Err RunFault.Write → IsReportPartWritten (report_answers command (option_copied prefer.entry)) bytes.now (O.writer.contents out.old) (O.writer.contents out.new) }
+    ensures broken { result ≡ Err RunFault.Write → IsReportPartWritten (report_answers command (option_copied prefer.entry)) bytes.now
+        (O.writer.contents out.old) (O.writer.contents out.new) }
     ensures write { result ≡ Err RunFault.Write → O.writer.has_failed out.new ≡ true }
     ensures faults { IfErr result (λ fault. (fault ≡ RunFault.Memory) ⊎ (fault ≡ RunFault.Write)) }
 {
@@ -112,7 +116,8 @@ fn write_pair<O: Sink>(
     prefer: Option<&str>,
 ) -> Result<Outcome, RunFault>
     requires { O.writer.has_failed out.old ≡ false }
-    ensures written { IfOk result (λ outcome. IsPairWritten (pair_answers command (option_copied prefer.entry)) left.now right.now outcome (O.writer.contents out.old) (O.writer.contents out.new)) }
+    ensures written { IfOk result (λ outcome. IsPairWritten (pair_answers command (option_copied prefer.entry)) left.now right.now outcome
+        (O.writer.contents out.old) (O.writer.contents out.new)) }
     ensures flushed { OnOk result (O.writer.is_flushed out.new ≡ true) }
     ensures works { OnOk result (O.writer.has_failed out.new ≡ false) }
     ensures memory { result ≡ Err RunFault.Memory → out.new ≡ out.old }

@@ -1,7 +1,8 @@
 //! The engines that prepare a report. What they write is in memory as a whole before any of it is written.
 
 ghost use Rattle.std.specs.Prelude.{◌≡◌, ◌⊎◌, ◌<◌, length, false, true, string_bytes, Err, IfErr, IfOk, OnOk, option_copied, option_map};
-ghost use Rattle.erd_canon.specs.Words.{asked_steps, between, AreStepsListed, AreTextsPartWritten, AreTextsWith, AreTextsWritten, IsPreparationTold, IsPreparedAs, IsTextsRun};
+ghost use Rattle.erd_canon.specs.Words.{asked_steps, between, AreStepsListed, AreTextsPartWritten, AreTextsWith, AreTextsWritten, IsPreparationTold};
+ghost use Rattle.erd_canon.specs.Words.{IsPreparedAs, IsTextsRun};
 ghost use Rattle.erd_canon.specs.code.PrepareCommands.{prepare_answers};
 
 use crate::devices::sink::Sink;
@@ -179,7 +180,8 @@ fn write_asked<O: Sink, E: Sink>(
         → (O.writer.has_failed out.new ≡ true) ⊎ (E.writer.has_failed err.new ≡ true) }
     ensures faults { IfErr result (λ fault. (fault ≡ RunFault.Memory) ⊎ (fault ≡ RunFault.Write)) }
     ensures out_first { O.writer.has_failed out.new ≡ true → O.writer.flushes out.new ≡ O.writer.flushes out.old → err.new ≡ err.old }
-    ensures writes_first { E.writer.has_failed err.new ≡ true → E.writer.flushes err.new ≡ E.writer.flushes err.old → O.writer.flushes out.new ≡ O.writer.flushes out.old }
+    ensures writes_first { E.writer.has_failed err.new ≡ true → E.writer.flushes err.new ≡ E.writer.flushes err.old → O.writer.flushes out.new
+        ≡ O.writer.flushes out.old }
     ensures flush_order { (E.writer.flushes err.new ≡ E.writer.flushes err.old) ⊎ (O.writer.is_flushed out.new ≡ true) }
     ensures out_needed { O.writer.has_failed out.new ≡ true → O.writer.flushes out.new ≡ O.writer.flushes out.old
         → AreTextsWith (prepare_answers asked.entry.0 asked.entry.1.now (option_copied asked.entry.2)) (λ out_text _. 0 < length out_text) bytes.now }
@@ -202,7 +204,8 @@ fn texts_of(
     bytes: &[u8],
     asked: (PrepareCommand, &[StepName], Option<&str>),
 ) -> Result<Texts, AllocError>
-    ensures { IfOk result (λ texts. prepare_answers asked.entry.0 asked.entry.1.now (option_copied asked.entry.2) bytes.now texts.outcome texts.out.items (string_bytes texts.err)) }
+    ensures { IfOk result (λ texts. prepare_answers asked.entry.0 asked.entry.1.now (option_copied asked.entry.2) bytes.now texts.outcome texts.out.items
+        (string_bytes texts.err)) }
 {
     let (command, chosen, prefer) = asked;
     match command {

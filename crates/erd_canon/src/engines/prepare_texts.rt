@@ -5,7 +5,8 @@ ghost use Rattle.std.specs.List.{flat_map};
 ghost use Rattle.erd_prepare.specs.Steps.{IsNamedStepDone};
 ghost use Rattle.erd_prepare.specs.declared.engine.Done.{Done};
 ghost use Rattle.erd_prepare.specs.declared.step_name.TheConstants.{STEPS};
-ghost use Rattle.erd_canon.specs.Words.{count_lines, done_lines, fault_line, grouped_text, text_of_lines, tried_lines, view, AreFileTexts, AreNotJsonTexts, AreStepsListed, AreStepsTried, AreToldTexts, AreTriedTexts, IsJudged, IsPreparationTold, IsPreparedAs};
+ghost use Rattle.erd_canon.specs.Words.{count_lines, done_lines, fault_line, grouped_text, text_of_lines, tried_lines, view, AreFileTexts, AreNotJsonTexts};
+ghost use Rattle.erd_canon.specs.Words.{AreStepsListed, AreStepsTried, AreToldTexts, AreTriedTexts, IsJudged, IsPreparationTold, IsPreparedAs};
 
 use crate::bytes::acceptance::{Input, check_bytes_with};
 use crate::bytes::refusal::Refusal;
@@ -181,7 +182,8 @@ fn push_tried(
     report: &Value,
     text: &mut String,
 ) -> Result<(), AllocError>
-    ensures { OnOk result ((done : Done) × IsNamedStepDone step (view report.now) done × (string_bytes text.new ≡ string_bytes text.old ++ text_of_lines (tried_lines step done))) }
+    ensures { OnOk result ((done : Done) × IsNamedStepDone step (view report.now) done
+        × (string_bytes text.new ≡ string_bytes text.old ++ text_of_lines (tried_lines step done))) }
 {
     let done = do_step(alloc, step, report)?;
     push_done(alloc, step, &done, text)

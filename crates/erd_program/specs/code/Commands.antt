@@ -14,7 +14,8 @@ use Rattle.erd_program.specs.declared.commands.PairCommand.TheVariants as pair
 use Rattle.erd_program.specs.declared.steps.StepsCommand.{StepsCommand}
 use Rattle.erd_program.specs.declared.steps.StepsCommand.TheVariants as steps
 use Rattle.erd_prepare.specs.declared.step_name.StepName.{StepName}
-use Rattle.erd_program.specs.Files.{AreBallotsListed, AreBallotsListedAsData, IsEachStepTried, IsFileCanonicalised, IsFileChecked, IsFileCheckedAsData, IsFilePrepared, IsPreparationReported}
+use Rattle.erd_program.specs.Files.{AreBallotsListed, AreBallotsListedAsData, IsEachStepTried, IsFileCanonicalised, IsFileChecked, IsFileCheckedAsData}
+use Rattle.erd_program.specs.Files.{IsFilePrepared, IsPreparationReported}
 use Rattle.erd_program.specs.World.{Outside}
 
 -- No stream has failed.
@@ -24,7 +25,8 @@ pub record StreamsWork {I O E : Type 0} (reader : Reader I) (writer : Writer O) 
   pub err_works : errors.has_failed err ≡ false
 
 -- What the engine did for the command.
-abbrev pub run_of : {F File I O E : Type 0} → FileCommand → Preference → Outside F File I O E → Result Outcome RunFault → BeforeAfter File → BeforeAfter O → BeforeAfter E → Type 0
+abbrev pub run_of : {F File I O E : Type 0} → FileCommand → Preference → Outside F File I O E → Result Outcome RunFault → BeforeAfter File → BeforeAfter O
+    → BeforeAfter E → Type 0
 run_of Check prefer = λ known answer file out err. IsFileChecked prefer known answer file out err
 run_of Canon prefer = λ known answer file out err. IsFileCanonicalised prefer known answer file out err
 run_of CheckData prefer = λ known answer file out err. IsFileCheckedAsData prefer known answer file out err
@@ -35,19 +37,24 @@ run_of PrepareList prefer = λ known answer file out err. IsEachStepTried known 
 run_of (PrepareReport chosen) prefer = λ known answer file out err. IsPreparationReported chosen.now known answer file out err
 
 -- What the engine did for the command by the chosen steps.
-abbrev pub steps_run : {F File I O E : Type 0} → StepsCommand → Preference → List StepName → Outside F File I O E → Result Outcome RunFault → BeforeAfter File → BeforeAfter O → BeforeAfter E → Type 0
+abbrev pub steps_run : {F File I O E : Type 0} → StepsCommand → Preference → List StepName → Outside F File I O E → Result Outcome RunFault → BeforeAfter File
+    → BeforeAfter O → BeforeAfter E → Type 0
 steps_run steps.Prepare prefer chosen = λ known answer file out err. IsFilePrepared prefer chosen known answer file out err
 steps_run steps.Report prefer chosen = λ known answer file out err. IsPreparationReported chosen known answer file out err
 
 -- What the engine did for the command on two files, over what is known of their readers and of the writer.
-abbrev pub pair_run : {File O : Type 0} → PairCommand → Preference → Reader File → Writer O → Result Outcome RunFault → BeforeAfter File → BeforeAfter File → BeforeAfter O → Type 0
+abbrev pub pair_run : {File O : Type 0} → PairCommand → Preference → Reader File → Writer O → Result Outcome RunFault → BeforeAfter File → BeforeAfter File
+    → BeforeAfter O → Type 0
 pair_run pair.Compare prefer reader writer answer left right out = IsCompareRun reader reader writer prefer answer left right out
 pair_run pair.CompareData prefer reader writer answer left right out = IsPairRun reader reader writer (IsCompareLine prefer) answer left right out
 pair_run pair.Differences prefer reader writer answer left right out = IsPairRun reader reader writer (IsListed prefer) answer left right out
 pair_run pair.DifferencesData prefer reader writer answer left right out = IsPairRun reader reader writer (IsListLine prefer) answer left right out
-pair_run pair.BallotDifferences prefer reader writer answer left right out = IsPairRun reader reader writer (IsBallotDifferenceLines prefer) answer left right out
-pair_run pair.BallotDifferencesData prefer reader writer answer left right out = IsPairRun reader reader writer (IsBallotDifferencesLine prefer) answer left right out
+pair_run pair.BallotDifferences prefer reader writer answer left right out =
+    IsPairRun reader reader writer (IsBallotDifferenceLines prefer) answer left right out
+pair_run pair.BallotDifferencesData prefer reader writer answer left right out =
+    IsPairRun reader reader writer (IsBallotDifferencesLine prefer) answer left right out
 
 -- The same over what is known of the outside.
-abbrev pub pair_run_of : {F File I O E : Type 0} → PairCommand → Preference → Outside F File I O E → Result Outcome RunFault → BeforeAfter File → BeforeAfter File → BeforeAfter O → Type 0
+abbrev pub pair_run_of : {F File I O E : Type 0} → PairCommand → Preference → Outside F File I O E → Result Outcome RunFault → BeforeAfter File
+    → BeforeAfter File → BeforeAfter O → Type 0
 pair_run_of command prefer = λ known answer left right out. pair_run command prefer known.file known.out answer left right out

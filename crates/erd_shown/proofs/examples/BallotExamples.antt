@@ -1,5 +1,6 @@
 -- The ballots of small reports, and two of them beside each other, by computation.
-use Rattle.erd_shown.proofs.Common.{◌≡◌, ℕ, true, false, List, [], ◌∷◌, ◌++◌, Some, None, codes, sym, refl, ◌∙◌, subst, same_Some, slice_get, Data, compact_text, tree_of, small_ballot, small_ballot_with, one_unit, local_key, NameParts}
+use Rattle.erd_shown.proofs.Common.{◌≡◌, ℕ, true, false, List, [], ◌∷◌, ◌++◌, Some, None, codes, sym, refl, ◌∙◌, subst, same_Some, slice_get, Data}
+use Rattle.erd_shown.proofs.Common.{compact_text, tree_of, small_ballot, small_ballot_with, one_unit, local_key, NameParts}
 unfoldable use Rattle.erd_shown.proofs.Common.{digits, serde_json_on_literals}
 use Rattle.erd_check.proofs.Reports.{contest_node, header_node}
 use Rattle.erd_tables.specs.declared.class.Class.TheVariants as class
@@ -24,7 +25,8 @@ abbrev without : Data
 without = tree_of one_unit
 
 -- a header, a contest inside it and one behind it, for the voters of a precinct
-head_there : compact_text (heads_data None one) ≡ codes "[{\"at\":0,\"key\":[\"local-level\",\"\",\"S1\"],\"lines\":3,\"parties\":[],\"units\":[[\"local-level\",\"\",\"U2\"]]}]"
+head_there : compact_text (heads_data None one)
+    ≡ codes "[{\"at\":0,\"key\":[\"local-level\",\"\",\"S1\"],\"lines\":3,\"parties\":[],\"units\":[[\"local-level\",\"\",\"U2\"]]}]"
 unfolding digits serde_json_on_literals
 head_there = refl
 
@@ -62,7 +64,15 @@ line_told = refl
 -- ---- the selections of a contest
 
 abbrev for_two : NameParts
-for_two = record { class = class.CandidateSelection; keys = local_key (codes "K1") ∷ local_key (codes "K2") ∷ []; write_in = false; order = None; label = None; identifier = None }
+for_two =
+    record {
+      class = class.CandidateSelection;
+      keys = local_key (codes "K1") ∷ local_key (codes "K2") ∷ [];
+      write_in = false;
+      order = None;
+      label = None;
+      identifier = None;
+    }
 
 abbrev for_one : NameParts
 for_one = record { class = class.CandidateSelection; keys = local_key (codes "K3") ∷ []; write_in = false; order = None; label = None; identifier = None }
@@ -75,17 +85,23 @@ listing ids = tree_of (codes "{\"@type\":\"ElectionResults.OrderedContest\",\"Co
 
 -- three that are listed, and two of them in another order: one stays, one moves, one is gone
 abbrev listed : Beside
-listed = record { lefts = for_one ∷ for_two ∷ write_in_line ∷ []; rights = for_two ∷ for_one ∷ []; rows = MovedHere 1 0 ∷ Both 0 1 ∷ MovedAway 1 0 ∷ Removed 2 ∷ [] }
+listed = record {
+  lefts = for_one ∷ for_two ∷ write_in_line ∷ [];
+  rights = for_two ∷ for_one ∷ [];
+  rows = MovedHere 1 0 ∷ Both 0 1 ∷ MovedAway 1 0 ∷ Removed 2 ∷ [];
+}
 
 two_lists : AreSelections None one (listing (codes "\"a10\",\"a9\",\"a11\"")) None one (listing (codes "\"a9\",\"a10\"")) listed
 unfolding serde_json_on_literals
-two_lists = record { left_names = refl; right_names = refl; are_rows = record { left_lines = refl; right_lines = refl; so = (refl, (refl, (refl, (refl, tt)))) } }
+two_lists =
+    record { left_names = refl; right_names = refl; are_rows = record { left_lines = refl; right_lines = refl; so = (refl, (refl, (refl, (refl, tt)))) } }
 
 -- against a ballot that lists none, both are told in the order of the names, and nothing moves
 abbrev by_name : Beside
 by_name = record { lefts = write_in_line ∷ for_two ∷ for_one ∷ []; rights = write_in_line ∷ for_two ∷ for_one ∷ []; rows = Both 0 0 ∷ Both 1 1 ∷ Both 2 2 ∷ [] }
 
-against_none : AreSelections None one (listing (codes "\"a10\",\"a9\",\"a11\"")) None one (tree_of (codes "{\"@type\":\"ElectionResults.OrderedContest\",\"ContestId\":\"a8\"}")) by_name
+against_none : AreSelections None one (listing (codes "\"a10\",\"a9\",\"a11\"")) None one
+    (tree_of (codes "{\"@type\":\"ElectionResults.OrderedContest\",\"ContestId\":\"a8\"}")) by_name
 unfolding serde_json_on_literals
 against_none = record { left_names = refl; right_names = refl; are_rows = record { left_lines = refl; right_lines = refl; so = (refl, (refl, (refl, tt))) } }
 
@@ -116,7 +132,8 @@ of_measure =
 abbrev rows_there : List (Row × Beside)
 rows_there = (MovedHere 1 0, of_measure) ∷ (Both 0 1, listed) ∷ (MovedAway 1 0, no_names) ∷ []
 
-at_known : (t u : Data) (ls rs : List (ℕ × Data)) (i j : ℕ) (b : Beside) (x y : ℕ × Data) → slice_get ls i ≡ Some x → slice_get rs j ≡ Some y → AreSelections None t x.1 None u y.1 b → AreSelectionsAt None t ls None u rs i j b
+at_known : (t u : Data) (ls rs : List (ℕ × Data)) (i j : ℕ) (b : Beside) (x y : ℕ × Data) → slice_get ls i ≡ Some x → slice_get rs j ≡ Some y
+    → AreSelections None t x.1 None u y.1 b → AreSelectionsAt None t ls None u rs i j b
 at_known t u ls rs i j b x y left right are l r one_is other_is =
     subst (λ (z : ℕ × Data). AreSelections None t l.1 None u z.1 b) (same_Some y r (sym right ∙ other_is))
     (subst (λ (z : ℕ × Data). AreSelections None t z.1 None u y.1 b) (same_Some x l (sym left ∙ one_is)) are)

@@ -1,5 +1,6 @@
 -- Any member but the selections of a contest is written alike if and only if it means the same.
-use Rattle.erd_text.proofs.Common.{arith, length, suc, cond, list_of_items, Decides-eqb, ◌≡◌, Bool, true, false, Some, None, option_and_then, sym, refl, ap, ◌∙◌, Data, array, Items, no_items, item, as_str, entries_of, kind}
+use Rattle.erd_text.proofs.Common.{arith, length, suc, cond, list_of_items, Decides-eqb, ◌≡◌, Bool, true, false, Some, None, option_and_then, sym, refl, ap}
+use Rattle.erd_text.proofs.Common.{◌∙◌, Data, array, Items, no_items, item, as_str, entries_of, kind}
 use Rattle.std.specs.Prelude.{◌↔◌}
 use Rattle.erd_check.specs.Faults.{is_empty_array}
 use Rattle.erd_meaning.specs.Meaning.{a_json, a_label, a_json_set, a_key, a_key_set, a_content}
@@ -15,7 +16,8 @@ use Rattle.erd_shown.specs.KeyData.{shown_key_or_null}
 use Rattle.erd_shown.specs.code.Fitting.{ValuesTell}
 
 -- what stands under one constructor tells as much
-under : {A V : Type 0} (f : A → V) → ((a b : A) → f a ≡ f b → a ≡ b) → {x y : Data} (a b : A) → (x ≡ y) ↔ (a ≡ b) → (Some x ≡ Some y) ↔ (Some (f a) ≡ Some (f b))
+under : {A V : Type 0} (f : A → V) → ((a b : A) → f a ≡ f b → a ≡ b) → {x y : Data} (a b : A) → (x ≡ y) ↔ (a ≡ b) → (Some x ≡ Some y)
+    ↔ (Some (f a) ≡ Some (f b))
 under f exact {x} {y} a b h = (
   λ e. let same : x ≡ y = cc in ap (λ z. Some (f z)) (h.0 same),
   λ e. let same : f a ≡ f b = cc in ap Some (h.1 (exact a b same)),
@@ -57,12 +59,17 @@ itself = (λ e. e, λ e. e)
 pub values_tell : ValuesTell
 values_tell π ρ t u kind.Label d e g h = under a_label (λ a b s. cc) (label_of d) (label_of e) (labels_tell d e g h)
 values_tell π ρ t u (kind.One f) d e g h =
-    under a_key (λ a b s. cc) (option_and_then (key_named π t f) (as_str d)) (option_and_then (key_named ρ u f) (as_str e)) (keys_exact _ _, λ s. ap shown_key_or_null s)
+    under a_key (λ a b s. cc) (option_and_then (key_named π t f) (as_str d)) (option_and_then (key_named ρ u f) (as_str e))
+    (keys_exact _ _, λ s. ap shown_key_or_null s)
 values_tell π ρ t u (kind.Many f) d e g h =
-    unless a_key_set (λ a b s. cc) d e _ _ (key_set (keys_named π t f (entries_of d))) (key_set (keys_named ρ u f (entries_of e))) (keys_tell π ρ t u f (entries_of d) (entries_of e) g h)
-values_tell π ρ t u kind.Identifiers d e g h = unless a_json_set (λ a b s. cc) d e _ _ (json_set (entries_of d)) (json_set (entries_of e)) (sets_tell (entries_of d) (entries_of e) g h)
-values_tell π ρ t u kind.Languages d e g h = unless a_json_set (λ a b s. cc) d e _ _ (json_set (entries_of d)) (json_set (entries_of e)) (sets_tell (entries_of d) (entries_of e) g h)
-values_tell π ρ t u kind.Content d e g h = unless a_content (λ a b s. cc) d e _ _ (content_of π t d) (content_of ρ u e) (contents_tell π ρ t u d e g.1 h.1 g.0 h.0)
+    unless a_key_set (λ a b s. cc) d e _ _ (key_set (keys_named π t f (entries_of d))) (key_set (keys_named ρ u f (entries_of e)))
+    (keys_tell π ρ t u f (entries_of d) (entries_of e) g h)
+values_tell π ρ t u kind.Identifiers d e g h = unless a_json_set (λ a b s. cc) d e _ _ (json_set (entries_of d)) (json_set (entries_of e))
+    (sets_tell (entries_of d) (entries_of e) g h)
+values_tell π ρ t u kind.Languages d e g h = unless a_json_set (λ a b s. cc) d e _ _ (json_set (entries_of d)) (json_set (entries_of e))
+    (sets_tell (entries_of d) (entries_of e) g h)
+values_tell π ρ t u kind.Content d e g h = unless a_content (λ a b s. cc) d e _ _ (content_of π t d) (content_of ρ u e)
+    (contents_tell π ρ t u d e g.1 h.1 g.0 h.0)
 values_tell π ρ t u kind.Word d e g h = under a_json (λ a b s. cc) d e itself
 values_tell π ρ t u kind.Flag d e g h = under a_json (λ a b s. cc) d e itself
 values_tell π ρ t u kind.Whole d e g h = under a_json (λ a b s. cc) d e itself

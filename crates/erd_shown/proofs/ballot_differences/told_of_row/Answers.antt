@@ -18,7 +18,8 @@ returns-in-Both c =
     IfOk-weaker c.told_of_both.result _ _
     (λ found told.
     told
-    ∙ ap₂ (told_of_both same) (place_there ones c.in-Both.one c.place_in-one.result c.place_in-one.ensures) (place_there others c.in-Both.other c.place_in-other.result c.place_in-other.ensures)
+    ∙ ap₂ (told_of_both same) (place_there ones c.in-Both.one c.place_in-one.result c.place_in-one.ensures)
+    (place_there others c.in-Both.other c.place_in-other.result c.place_in-other.ensures)
     ∙ sym (ap (λ (r : Row). told_of_row same (map of_place ones) (map of_place others) r) c.in-Both.is))
     c.told_of_both.ensures
 

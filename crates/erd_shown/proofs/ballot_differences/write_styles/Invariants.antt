@@ -4,4 +4,5 @@ use Rattle.erd_shown.proofs.ballot_differences.write_styles.Given as goal
 
 abbrev pub invariant-loop-style : goal.invariant-loop-style
 invariant-loop-style l =
-    l.out ++ items_tokens (items_of (map style_data (map of_style (drop l.style-index l.styles)))) ≡ l.initial.out ++ items_tokens (items_of (map style_data (map of_style l.styles)))
+    l.out ++ items_tokens (items_of (map style_data (map of_style (drop l.style-index l.styles)))) ≡ l.initial.out
+    ++ items_tokens (items_of (map style_data (map of_style l.styles)))

@@ -18,7 +18,8 @@ returns-in-Identifiers c =
     let t = view c.args.report.now.tree in
     let d = view c.args.value.now in
     let entries = c.entries_of-in-Identifiers.ensures in
-    let value : shown_value π t c.args.kind d ≡ unless_no_entry d (set_data (entries_of d)) = elim c.in-Identifiers.is [ inl e ↦ ap (λ k. shown_value π t k d) e | inr e ↦ ap (λ k. shown_value π t k d) e ] in
+    let value : shown_value π t c.args.kind d ≡ unless_no_entry d (set_data (entries_of d)) =
+    elim c.in-Identifiers.is [ inl e ↦ ap (λ k. shown_value π t k d) e | inr e ↦ ap (λ k. shown_value π t k d) e ] in
     on_ok_weaker c.write_rising_values.result
     (λ written whole v given.
     written (whole_list d c.entries_of-in-Identifiers.result.now whole entries)

@@ -9,7 +9,8 @@ pub returns : goal.returns
 returns c =
     let left = c.args.left.now in
     let right = c.args.right.now in
-    differing_told differing_text left.prefer right.prefer (view left.tree) (view right.tree) (map of_style c.in_ok-found.found.items) c.outcome_of.result (string_bytes c.in_ok-text.text)
+    differing_told differing_text left.prefer right.prefer (view left.tree) (view right.tree) (map of_style c.in_ok-found.found.items) c.outcome_of.result
+    (string_bytes c.in_ok-text.text)
     c.requires.one_preference c.in_ok-found.ensures
     (c.outcome_of.ensures ∙ ap (λ found. listing_outcome (map of_style found)) c.deref-2.ensures.value)
     (c.in_ok-text.ensures ∙ ap (λ found. differing_text (map of_style found)) c.deref.ensures.value)
