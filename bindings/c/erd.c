@@ -39,7 +39,8 @@ typedef struct told piece_of_pair(const uint8_t *left, size_t left_size, const u
                                   const uint8_t *prefer, size_t prefer_size, struct wanted *wanted, uint8_t *room,
                                   size_t room_size);
 piece_of_report erd_tell_check_piece, erd_tell_canonical_piece, erd_tell_check_data_piece, erd_tell_canonical_data_piece;
-piece_of_pair erd_tell_compare_piece, erd_tell_differences, erd_tell_compare_data_piece, erd_tell_differences_data;
+piece_of_pair erd_tell_compare_piece, erd_tell_differences, erd_tell_compare_data_piece, erd_tell_differences_data,
+    erd_tell_differences_values;
 struct told erd_tell_command_line(const uint8_t *words, size_t size, uint8_t *room, size_t room_size);
 struct told erd_tell_prepared(const uint8_t *bytes, size_t size, const uint8_t *steps, size_t steps_size, bool others,
                               uint8_t *room, size_t room_size);
@@ -65,6 +66,7 @@ enum call {
     CANONICAL_DATA_PIECE,
     COMPARE_DATA_PIECE,
     DIFFERENCES_DATA,
+    DIFFERENCES_VALUES,
     COMMAND_LINE,
     PREPARED,
     BALLOTS,
@@ -115,6 +117,8 @@ static struct told ask_for_piece(struct question *it, uint8_t *room, size_t room
         return ask_of_report(erd_tell_canonical_data_piece, it, room, room_size);
     case COMPARE_DATA_PIECE:
         return ask_of_pair(erd_tell_compare_data_piece, it, room, room_size);
+    case DIFFERENCES_VALUES:
+        return ask_of_pair(erd_tell_differences_values, it, room, room_size);
     default:
         return ask_of_pair(erd_tell_differences_data, it, room, room_size);
     }
@@ -349,14 +353,21 @@ enum erd_outcome erd_differences_data(const void *left, size_t left_size, const 
     return call_for_piece(&it, 0, piece, text, length);
 }
 
+enum erd_outcome erd_differences_values(const void *left, size_t left_size, const void *right, size_t right_size,
+                                        const char *prefer, struct erd_piece *piece, char **text, size_t *length) {
+    struct question it = question_of(DIFFERENCES_VALUES, bytes_of(left, left_size), bytes_of(right, right_size), prefer);
+    return call_for_piece(&it, 0, piece, text, length);
+}
+
 #include "list.h"
 
 struct erd_list *erd_open(enum erd_listing listing, const void *left, size_t left_size, const void *right, size_t right_size,
                           const char *prefer, size_t room) {
-    static const enum call calls[] = {CHECK_PIECE,      CANONICAL_PIECE,      COMPARE_PIECE,      DIFFERENCES,
-                                      CHECK_DATA_PIECE, CANONICAL_DATA_PIECE, COMPARE_DATA_PIECE, DIFFERENCES_DATA};
-    bool is_of_pair = listing % 4 >= ERD_LIST_COMPARE;
-    struct erd_list *list = (unsigned)listing > ERD_LIST_DIFFERENCES_DATA ? NULL : calloc(1, sizeof *list);
+    static const enum call calls[] = {CHECK_PIECE,        CANONICAL_PIECE,    COMPARE_PIECE,
+                                      DIFFERENCES,        CHECK_DATA_PIECE,   CANONICAL_DATA_PIECE,
+                                      COMPARE_DATA_PIECE, DIFFERENCES_DATA,   DIFFERENCES_VALUES};
+    bool is_of_pair = listing % 4 >= ERD_LIST_COMPARE || listing == ERD_LIST_DIFFERENCES_VALUES;
+    struct erd_list *list = (unsigned)listing > ERD_LIST_DIFFERENCES_VALUES ? NULL : calloc(1, sizeof *list);
     if (list == NULL)
         return NULL;
     list->it = question_of(calls[listing], bytes_of(left, left_size),

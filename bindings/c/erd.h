@@ -140,6 +140,12 @@ enum erd_outcome erd_compare_data_piece(const void *left, size_t left_size, cons
 enum erd_outcome erd_differences_data(const void *left, size_t left_size, const void *right, size_t right_size,
                                       const char *prefer, struct erd_piece *piece, char **text, size_t *length);
 
+/* Lists all differences of two reports, as erd_differences_data does. An object has a last member `values` too, with what each
+ * report has there, under `left` and `right`: the value of the member, or the record of the object. A report that has none is left
+ * out. The selections of contests and the content of ballots have no such member. */
+enum erd_outcome erd_differences_values(const void *left, size_t left_size, const void *right, size_t right_size,
+                                        const char *prefer, struct erd_piece *piece, char **text, size_t *length);
+
 /* What a list has: the pieces that the call of this name answers with, one behind the other. The numbers begin with 0. */
 enum erd_listing {
     ERD_LIST_CHECK,            /* erd_check_piece */
@@ -149,7 +155,8 @@ enum erd_listing {
     ERD_LIST_CHECK_DATA,       /* erd_check_data_piece */
     ERD_LIST_CANONICAL_DATA,   /* erd_canonical_data_piece */
     ERD_LIST_COMPARE_DATA,     /* erd_compare_data_piece */
-    ERD_LIST_DIFFERENCES_DATA  /* erd_differences_data */
+    ERD_LIST_DIFFERENCES_DATA, /* erd_differences_data */
+    ERD_LIST_DIFFERENCES_VALUES /* erd_differences_values */
 };
 
 /* A list that erd_open opens, erd_next hands out piece by piece, and erd_close frees. A call for a piece judges its reports each

@@ -53,6 +53,11 @@ export interface Difference {
      * for as much of the list as is kept at a time: at least 4 megabytes.
      */
     selections?: SelectionDifference[];
+    /**
+     * What each report has there: the value of the member, or the record of the object. A report that has none is left out. Only
+     * `differences` tells it, and not of the selections of contests or of the content of ballots.
+     */
+    values?: { left?: unknown; right?: unknown };
     /** The line that the program writes for the difference, without its line feed. */
     line: string;
 }

@@ -74,6 +74,7 @@ OF_PAIR(erd_tell_compare_piece, false)
 OF_PAIR(erd_tell_differences, false)
 OF_PAIR(erd_tell_compare_data_piece, true)
 OF_PAIR(erd_tell_differences_data, true)
+OF_PAIR(erd_tell_differences_values, true)
 
 /* The calls that no list is made of are not called here. */
 #define NOT_CALLED(name, ...)                                                                                                  \
@@ -191,7 +192,7 @@ int main(void) {
     }
     long_list();
     erd_close(NULL);
-    said(erd_open((enum erd_listing)8, "", 0, "", 0, NULL, 0) == NULL ? NULL : "it was opened", (enum erd_listing)8, "another number");
+    said(erd_open((enum erd_listing)9, "", 0, "", 0, NULL, 0) == NULL ? NULL : "it was opened", (enum erd_listing)9, "another number");
     printf("%u passed, %u failed\n", passed, failed);
     return failed != 0;
 }

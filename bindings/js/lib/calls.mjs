@@ -76,7 +76,7 @@ export class Erd {
     /** Lists the differences of two reports. */
     differences(left, right, options) {
         const asked = askedFor(options, 'mostDifferences');
-        const { taken, all } = this.#list('erd_differences_data', pairOf(left, right), asked);
+        const { taken, all } = this.#list('erd_differences_values', pairOf(left, right), asked);
         return differencesOf(taken, all);
     }
 

@@ -116,6 +116,7 @@ PIECE_OF_TWO_REPORTS(erd_compare_piece)
 PIECE_OF_TWO_REPORTS(erd_differences)
 PIECE_OF_TWO_REPORTS(erd_compare_data_piece)
 PIECE_OF_TWO_REPORTS(erd_differences_data)
+PIECE_OF_TWO_REPORTS(erd_differences_values)
 
 uint32_t exported_erd_ballot(address bytes, uint32_t size, address prefer, uint32_t position, address text, address length)
     EXPORTED("erd_ballot");

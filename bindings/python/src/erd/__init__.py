@@ -90,7 +90,7 @@ def differences(left: Report, right: Report, *, prefer: Optional[str] = None,
     >>> differences('{', '{').lines
     ('left: not JSON',)
     """
-    data, count = listed('erd_differences_data', (bytes_of(left), bytes_of(right)), prefer, most_differences)
+    data, count = listed('erd_differences_values', (bytes_of(left), bytes_of(right)), prefer, most_differences)
     return hinted_pair(left, right, differences_of(data, count))
 
 
