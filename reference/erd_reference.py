@@ -879,6 +879,60 @@ def difference_data(difference):
     return data
 
 
+def valued_data(difference, left, right):
+    """API.md: 'each with a last member `values`: what either report has there, under `left` and `right`.' 'A report that has none is
+    left out.' 'Selections of contests and the content of ballots have no `values`'."""
+    data = difference_data(difference)
+    sides = {name: value_on_side(resolved, difference) for name, resolved in (('left', left), ('right', right))}
+    values = {name: value for name, value in sides.items() if value is not NOTHING}
+    return {**data, 'values': values} if values else data
+
+
+# A member that means nothing by itself, or an object that is not there. A carried member may be null, so None is not used.
+NOTHING = object()
+
+
+def value_on_side(resolved, difference):
+    """API.md: 'It is the value of the member, or the record of the object if `how` is not `"member"`.'"""
+    things = [Object((), 'report', resolved.report), *resolved.objects]
+    for thing in things:
+        if thing.family == difference.part and (thing.family == 'report' or resolved.key_of(thing) == difference.key):
+            members = shown_members(resolved, thing.value)
+            holder = key_of_holder(resolved, thing)
+            if difference.member == 'ElectionId':
+                return NOTHING if holder is None else holder
+            if difference.member is not None:
+                return members.get(difference.member, NOTHING)
+            return {'class': thing.value['@type'], 'election': holder, 'members': members}
+    return NOTHING
+
+
+def key_of_holder(resolved, thing):
+    """The key of the Election that a candidate, a contest or a style stands in, if that has one."""
+    if thing.family not in ('candidate', 'contest', 'style'):
+        return None
+    return chosen_triple(resolved.report['Election'][thing.place[1]], resolved.preference)
+
+
+def shown_members(resolved, value):
+    """The members of an object that mean something by themselves. Selections and the content of ballots 'are not in records'."""
+    return {name: shown_value(resolved, member, inner) for name, member, inner in members_with_values(value)
+            if is_in_record(class_of(value), name, member, inner) and member.kind not in ('Keyed', 'Content')}
+
+
+def shown_value(resolved, member, value):
+    """'Keys stand in place of references.' Sets rise."""
+    if member.kind == 'Label':
+        return canonical_label(value)
+    if member.kind == 'Identifiers':
+        return sorted(value, key=compact_text)
+    if member.kind == 'One':
+        return resolved.key_named(value)
+    if member.kind == 'Many':
+        return sorted(map(resolved.key_named, value))
+    return value
+
+
 def way_data(difference):
     """API.md on `member`: 'the name of the member that differs. Only `"member"` has it'."""
     return {'how': difference.how} if difference.member is None else {'how': difference.how, 'member': difference.member}
