@@ -879,6 +879,73 @@ def difference_data(difference):
     return data
 
 
+def valued_entries(left, right):
+    """API.md: 'the values: what either report has there'. The list as data, one object after another."""
+    sides = {'left': Shown(left), 'right': Shown(right)}
+    for difference in entries(left, right):
+        yield valued_data(difference, sides)
+
+
+def valued_data(difference, sides):
+    """API.md: 'a last member `values`, with what either report has there, under `left` and `right`.' 'A report that has nothing
+    there is left out. If neither has anything, there is no `values`.'"""
+    told = ((name, side.value_at(difference)) for name, side in sides.items())
+    values = {name: value for name, value in told if value is not NOTHING}
+    return {**difference_data(difference), **({'values': values} if values else {})}
+
+
+# What a report has where a member is absent or means nothing by itself, or an object is not there. A carried member may be null.
+NOTHING = object()
+
+
+class Shown:
+    """What a report has at its differences from another one."""
+
+    def __init__(self, resolved):
+        self.resolved = resolved
+        self.objects = {(thing.family, resolved.key_of(thing)): thing for thing in resolved.objects if thing.family in PARTS}
+        self.objects['report', None] = Object((), 'report', resolved.report)
+
+    def value_at(self, difference):
+        """API.md: 'It is the value of the member, or the record of the object if `how` is not `"member"`.'"""
+        thing = self.objects.get((difference.part, difference.key))
+        if thing is None:
+            return NOTHING
+        members, election = shown_members(self.resolved, thing.value), key_of_holder(self.resolved, thing)
+        if difference.member is None:
+            return {'class': thing.value['@type'], 'election': election, 'members': members}
+        if difference.member == 'ElectionId':
+            return NOTHING if election is None else election
+        return members.get(difference.member, NOTHING)
+
+
+def key_of_holder(resolved, thing):
+    """The key of the Election that a candidate, a contest or a style stands in, if that has one."""
+    if thing.family not in ('candidate', 'contest', 'style'):
+        return None
+    return chosen_triple(resolved.report['Election'][thing.place[1]], resolved.preference)
+
+
+def shown_members(resolved, value):
+    """The members of an object that are told. API.md: 'The selections of contests and the content of ballots have no `values`, and are
+    in no record.'"""
+    return {name: shown_value(resolved, member, inner) for name, member, inner in members_with_values(value)
+            if is_in_record(class_of(value), name, member, inner) and member.kind not in ('Keyed', 'Content')}
+
+
+def shown_value(resolved, member, value):
+    """API.md: 'Keys stand in place of references, and sets rise.'"""
+    if member.kind == 'Label':
+        return canonical_label(value)
+    if member.kind == 'Identifiers':
+        return sorted(value, key=compact_text)
+    if member.kind == 'One':
+        return resolved.key_named(value)
+    if member.kind == 'Many':
+        return sorted(map(resolved.key_named, value))
+    return value
+
+
 def way_data(difference):
     """API.md on `member`: 'the name of the member that differs. Only `"member"` has it'."""
     return {'how': difference.how} if difference.member is None else {'how': difference.how, 'member': difference.member}
@@ -1025,7 +1092,7 @@ def run_differences(left_handle, right_handle, preference):
 
 
 def run_entries(left_handle, right_handle, preference):
-    """The same as data, with no line end. Of `erd` only the library answers so."""
+    """The same as data, with what either report has there, and with no line end. `erd` has a line end."""
     left_data = read_input(left_handle)
     right_data = read_input(right_handle)
     status, value = entries_answer(left_data, right_data, preference)
@@ -1042,7 +1109,7 @@ def entries_answer(left_data, right_data, preference):
         if status != 0:
             return status, {'refused': side, 'faults': 'not JSON' if status == 2 else [fault_data(fault) for fault in faults]}
         resolved.append(accepted)
-    found = [difference_data(difference) for difference in entries(*resolved)]
+    found = list(valued_entries(*resolved))
     return (1 if found else 0), found
 
 
@@ -1061,8 +1128,8 @@ def data_of(command, inputs, preference):
     else:
         status, value = entries_answer(*inputs, preference)
     if command == 'compare' and isinstance(value, list):
-        # API.md: `null`, or 'an object for the first difference', which tells nothing of what is inside selections.
-        value = {name: part for name, part in value[0].items() if name != 'selections'} if value else None
+        # API.md: `null`, or 'an object for the first difference', which has neither `selections` nor `values`.
+        value = {name: part for name, part in value[0].items() if name not in ('selections', 'values')} if value else None
     return status, compact_text(value)
 
 

@@ -28,6 +28,14 @@ struct told erd_tell_ballot(const uint8_t *bytes, size_t size, size_t position, 
 struct told erd_tell_ballot_differences(const uint8_t *left, size_t left_size, const uint8_t *right, size_t right_size,
                                         bool prefers, const uint8_t *prefer, size_t prefer_size, uint8_t *room,
                                         size_t room_size);
+/* The positions of the styles of two ballots. */
+struct positions {
+    size_t left, right;
+    bool prefers;
+};
+struct told erd_tell_ballots_beside(const uint8_t *left, size_t left_size, const uint8_t *right, size_t right_size,
+                                    const uint8_t *prefer, size_t prefer_size, const struct positions *at, uint8_t *room,
+                                    size_t room_size);
 struct wanted {
     size_t first, most, enough_bytes, told, all;
     bool prefers;
@@ -39,7 +47,8 @@ typedef struct told piece_of_pair(const uint8_t *left, size_t left_size, const u
                                   const uint8_t *prefer, size_t prefer_size, struct wanted *wanted, uint8_t *room,
                                   size_t room_size);
 piece_of_report erd_tell_check_piece, erd_tell_canonical_piece, erd_tell_check_data_piece, erd_tell_canonical_data_piece;
-piece_of_pair erd_tell_compare_piece, erd_tell_differences, erd_tell_compare_data_piece, erd_tell_differences_data;
+piece_of_pair erd_tell_compare_piece, erd_tell_differences, erd_tell_compare_data_piece, erd_tell_differences_data,
+    erd_tell_differences_values;
 struct told erd_tell_command_line(const uint8_t *words, size_t size, uint8_t *room, size_t room_size);
 struct told erd_tell_prepared(const uint8_t *bytes, size_t size, const uint8_t *steps, size_t steps_size, bool others,
                               uint8_t *room, size_t room_size);
@@ -65,11 +74,13 @@ enum call {
     CANONICAL_DATA_PIECE,
     COMPARE_DATA_PIECE,
     DIFFERENCES_DATA,
+    DIFFERENCES_VALUES,
     COMMAND_LINE,
     PREPARED,
     BALLOTS,
     BALLOT,
-    BALLOT_DIFFERENCES
+    BALLOT_DIFFERENCES,
+    BALLOTS_BESIDE
 };
 
 struct question {
@@ -77,7 +88,7 @@ struct question {
     struct bytes left, right, prefer;
     struct wanted wanted;
     bool others;
-    size_t position;
+    size_t position, other_position;
 };
 
 static struct bytes bytes_of(const void *at, size_t size) {
@@ -87,7 +98,7 @@ static struct bytes bytes_of(const void *at, size_t size) {
 
 static struct question question_of(enum call call, struct bytes left, struct bytes right, const char *prefer) {
     struct wanted all = {0, SIZE_MAX, SIZE_MAX, 0, 0, prefer != NULL};
-    return (struct question){call, left, right, bytes_of(prefer, prefer ? strlen(prefer) : 0), all, false, 0};
+    return (struct question){call, left, right, bytes_of(prefer, prefer ? strlen(prefer) : 0), all, false, 0, 0};
 }
 
 static struct told ask_of_report(piece_of_report *call, struct question *it, uint8_t *room, size_t room_size) {
@@ -115,6 +126,8 @@ static struct told ask_for_piece(struct question *it, uint8_t *room, size_t room
         return ask_of_report(erd_tell_canonical_data_piece, it, room, room_size);
     case COMPARE_DATA_PIECE:
         return ask_of_pair(erd_tell_compare_data_piece, it, room, room_size);
+    case DIFFERENCES_VALUES:
+        return ask_of_pair(erd_tell_differences_values, it, room, room_size);
     default:
         return ask_of_pair(erd_tell_differences_data, it, room, room_size);
     }
@@ -128,6 +141,10 @@ static struct told ask_for_ballots(const struct question *it, uint8_t *room, siz
     case BALLOT:
         return erd_tell_ballot(it->left.at, it->left.size, it->position, prefers, it->prefer.at, it->prefer.size, room,
                                room_size);
+    case BALLOTS_BESIDE:
+        return erd_tell_ballots_beside(it->left.at, it->left.size, it->right.at, it->right.size, it->prefer.at,
+                                       it->prefer.size, &(struct positions){it->position, it->other_position, prefers},
+                                       room, room_size);
     default:
         return erd_tell_ballot_differences(it->left.at, it->left.size, it->right.at, it->right.size, prefers,
                                            it->prefer.at, it->prefer.size, room, room_size);
@@ -157,6 +174,7 @@ static struct told ask(struct question *it, uint8_t *room, size_t room_size) {
     case BALLOTS:
     case BALLOT:
     case BALLOT_DIFFERENCES:
+    case BALLOTS_BESIDE:
         return ask_for_ballots(it, room, room_size);
     default:
         return ask_for_piece(it, room, room_size);
@@ -276,6 +294,15 @@ enum erd_outcome erd_ballot_differences(const void *left, size_t left_size, cons
     return call(&it, ROOM_FOR_PIECE, text, length);
 }
 
+enum erd_outcome erd_ballots_beside(const void *left, size_t left_size, const void *right, size_t right_size,
+                                    const char *prefer, size_t left_position, size_t right_position, char **text,
+                                    size_t *length) {
+    struct question it = question_of(BALLOTS_BESIDE, bytes_of(left, left_size), bytes_of(right, right_size), prefer);
+    it.position = left_position;
+    it.other_position = right_position;
+    return call(&it, ROOM_FOR_PIECE, text, length);
+}
+
 /* Room for the text of a list, so that most lists are made at once: as many bytes as are enough, at most a mebibyte, the commas
  * between entries of 16 bytes or more, and then one entry more. */
 static size_t room_for_list(const struct wanted *wanted) {
@@ -349,14 +376,21 @@ enum erd_outcome erd_differences_data(const void *left, size_t left_size, const 
     return call_for_piece(&it, 0, piece, text, length);
 }
 
+enum erd_outcome erd_differences_values(const void *left, size_t left_size, const void *right, size_t right_size,
+                                        const char *prefer, struct erd_piece *piece, char **text, size_t *length) {
+    struct question it = question_of(DIFFERENCES_VALUES, bytes_of(left, left_size), bytes_of(right, right_size), prefer);
+    return call_for_piece(&it, 0, piece, text, length);
+}
+
 #include "list.h"
 
 struct erd_list *erd_open(enum erd_listing listing, const void *left, size_t left_size, const void *right, size_t right_size,
                           const char *prefer, size_t room) {
-    static const enum call calls[] = {CHECK_PIECE,      CANONICAL_PIECE,      COMPARE_PIECE,      DIFFERENCES,
-                                      CHECK_DATA_PIECE, CANONICAL_DATA_PIECE, COMPARE_DATA_PIECE, DIFFERENCES_DATA};
-    bool is_of_pair = listing % 4 >= ERD_LIST_COMPARE;
-    struct erd_list *list = (unsigned)listing > ERD_LIST_DIFFERENCES_DATA ? NULL : calloc(1, sizeof *list);
+    static const enum call calls[] = {CHECK_PIECE,        CANONICAL_PIECE,    COMPARE_PIECE,
+                                      DIFFERENCES,        CHECK_DATA_PIECE,   CANONICAL_DATA_PIECE,
+                                      COMPARE_DATA_PIECE, DIFFERENCES_DATA,   DIFFERENCES_VALUES};
+    bool is_of_pair = listing % 4 >= ERD_LIST_COMPARE || listing == ERD_LIST_DIFFERENCES_VALUES;
+    struct erd_list *list = (unsigned)listing > ERD_LIST_DIFFERENCES_VALUES ? NULL : calloc(1, sizeof *list);
     if (list == NULL)
         return NULL;
     list->it = question_of(calls[listing], bytes_of(left, left_size),

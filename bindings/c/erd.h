@@ -140,16 +140,26 @@ enum erd_outcome erd_compare_data_piece(const void *left, size_t left_size, cons
 enum erd_outcome erd_differences_data(const void *left, size_t left_size, const void *right, size_t right_size,
                                       const char *prefer, struct erd_piece *piece, char **text, size_t *length);
 
+/* Lists all differences of two reports, as erd_differences_data does, with what each report has there. An object looks like
+ *
+ *     {"how":"member",..,"values":{"left":"Mayor","right":"Mayor of Ames"}}
+ *
+ * in which `values` has the value of the member, or the record of the object if `how` is not "member". A report that has
+ * nothing there is left out. The selections of contests and the content of ballots have no `values`. */
+enum erd_outcome erd_differences_values(const void *left, size_t left_size, const void *right, size_t right_size,
+                                        const char *prefer, struct erd_piece *piece, char **text, size_t *length);
+
 /* What a list has: the pieces that the call of this name answers with, one behind the other. The numbers begin with 0. */
 enum erd_listing {
-    ERD_LIST_CHECK,            /* erd_check_piece */
-    ERD_LIST_CANONICAL,        /* erd_canonical_piece */
-    ERD_LIST_COMPARE,          /* erd_compare_piece */
-    ERD_LIST_DIFFERENCES,      /* erd_differences */
-    ERD_LIST_CHECK_DATA,       /* erd_check_data_piece */
-    ERD_LIST_CANONICAL_DATA,   /* erd_canonical_data_piece */
-    ERD_LIST_COMPARE_DATA,     /* erd_compare_data_piece */
-    ERD_LIST_DIFFERENCES_DATA  /* erd_differences_data */
+    ERD_LIST_CHECK,              /* erd_check_piece */
+    ERD_LIST_CANONICAL,          /* erd_canonical_piece */
+    ERD_LIST_COMPARE,            /* erd_compare_piece */
+    ERD_LIST_DIFFERENCES,        /* erd_differences */
+    ERD_LIST_CHECK_DATA,         /* erd_check_data_piece */
+    ERD_LIST_CANONICAL_DATA,     /* erd_canonical_data_piece */
+    ERD_LIST_COMPARE_DATA,       /* erd_compare_data_piece */
+    ERD_LIST_DIFFERENCES_DATA,   /* erd_differences_data */
+    ERD_LIST_DIFFERENCES_VALUES  /* erd_differences_values */
 };
 
 /* A list that erd_open opens, erd_next hands out piece by piece, and erd_close frees. A call for a piece judges its reports each
@@ -248,13 +258,32 @@ enum erd_outcome erd_ballot(const void *bytes, size_t size, const char *prefer, 
 /* Tells which ballots are not the same in two reports. The text is compact JSON in UTF-8, with no line end: an array with an object
  * for each BallotStyle whose ballots are not the same, or which only one report has. It looks like
  *
- *     {"key":["local-level","","B1"],"left":0,"right":null}
+ *     {"below":"  changed units\n","key":["local-level","","B1"],"left":0,"right":0}
  *
- * `left` and `right` are the positions of the style, or null. The outcome is ERD_GOOD if the array is empty, and ERD_BAD if it is
+ * `left` and `right` are the positions of the style, or null. `below` has the lines that say what differs on its ballots, each ended by
+ * one line feed: none if only one report has the style. The outcome is ERD_GOOD if the array is empty, and ERD_BAD if it is
  * not. If a report is refused, the text is that of erd_compare_data. Ballots are the same if their texts of erd_ballot are, and they
  * print the same words of contests, headers, selections, candidates, parties and units: erd_differences tells what differs. */
 enum erd_outcome erd_ballot_differences(const void *left, size_t left_size, const void *right, size_t right_size,
                                         const char *prefer, char **text, size_t *length);
+
+/* Tells two ballots beside each other: those of the styles at these positions, as erd_ballot_differences tells them. The text is
+ * compact JSON in UTF-8, with no line end: `null` if a report has no such style, or an object with the lines of both ballots, `left`
+ * and `right`, as erd_ballot tells them, and with `rows`. A row looks like
+ *
+ *     {"how":"both","left":2,"right":3,"selections":[{"how":"removed","name":[..]}]}
+ *
+ * `left` and `right` are positions of lines, or null. `how` is "both"; "removed" or "added" for a line of one ballot; or "moved
+ * away" and "moved here" for a line that has another place: the first row stands where the left ballot has it, the second one where
+ * the right one has it. Each line stands in one row otherwise. A line that a ballot has several times is told apart by the number of
+ * the occurrence. `selections` has the rows of its selections, by their names, in the row of a contest of both that has not moved away;
+ * ballots that list none tell no moves. The outcome is ERD_GOOD; if a report is refused, it and the text are those of
+ * erd_compare_data. To see the first ballots of two reports:
+ *
+ *     erd_ballots_beside(left, left_size, right, right_size, NULL, 0, 0, &text, NULL); */
+enum erd_outcome erd_ballots_beside(const void *left, size_t left_size, const void *right, size_t right_size,
+                                    const char *prefer, size_t left_position, size_t right_position, char **text,
+                                    size_t *length);
 
 /* Frees a text that one of these calls returned. Null is allowed, and does nothing. */
 void erd_free(char *text);

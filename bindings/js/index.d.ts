@@ -38,6 +38,9 @@ export interface Fault {
 /** The `Type`, the `OtherType` and the `Value` of an identifier. */
 export type Key = [string, string, string];
 
+/** A JSON value. A whole number that a number of JavaScript can't hold is a bigint. */
+export type Json = null | boolean | number | bigint | string | Json[] | { [name: string]: Json };
+
 /** A difference of two reports. */
 export interface Difference {
     part: 'report' | 'unit' | 'party' | 'person' | 'office' | 'header' | 'election' | 'candidate' | 'contest' | 'style';
@@ -53,6 +56,12 @@ export interface Difference {
      * for as much of the list as is kept at a time: at least 4 megabytes.
      */
     selections?: SelectionDifference[];
+    /**
+     * What either report has there: the value of the member; or the record of the object, with its `class`, the key of its `election`
+     * and its `members`. Keys stand in place of references. A report that has nothing there is left out. Only `differences` tells
+     * it, and not of the selections of contests or of the content of ballots.
+     */
+    values?: { left?: Json; right?: Json };
     /** The line that the program writes for the difference, without its line feed. */
     line: string;
 }
@@ -182,7 +191,31 @@ export class BallotDifferences extends Compared {
         readonly right: number | null;
         readonly how: 'only left' | 'only right' | 'differs';
         readonly line: string;
+        /** What differs on the ballots of the style: the lines that `erd ballots` writes below its own, without their line feeds. */
+        readonly below: readonly string[];
     }[];
+}
+
+/** What became of a line, or of a selection. One that moved has a row where each ballot has it. */
+export type RowKind = 'both' | 'removed' | 'added' | 'moved away' | 'moved here';
+
+/** Two ballots beside each other. Each line of either stands in the rows once, in its order. */
+export class BallotsBeside extends Checked {
+    /** Which report is refused, if one is. The right one is judged only if the left one is accepted. */
+    readonly side: 'left' | 'right' | null;
+    /** Null if a report is refused, or has no style at its position. */
+    readonly ballots: {
+        readonly left: BallotLine[];
+        readonly right: BallotLine[];
+        readonly rows: {
+            readonly how: RowKind;
+            /** The positions of the line in the two ballots; null where a ballot has none. */
+            readonly left: number | null;
+            readonly right: number | null;
+            /** The rows of the selections of a contest of both, by their names. Ballots that list none tell no moves. */
+            readonly selections: { readonly how: RowKind; readonly name: SelectionName }[];
+        }[];
+    } | null;
 }
 
 /** A command, by what it does. */
@@ -216,6 +249,11 @@ export class Erd {
      */
     differences(left: Report, right: Report, options?: DifferencesOptions): Differences;
     /**
+     * The results of checking a report, piece by piece, so that no list of faults is in memory as a whole: each has the next faults. A
+     * report that is accepted, or is not JSON, has one.
+     */
+    checkedByPieces(report: Report, options?: Preference): Generator<Checked>;
+    /**
      * What a command writes, piece by piece: the exit status of the command, and the next bytes that it writes. No list of faults is
      * in memory as a whole.
      */
@@ -242,6 +280,11 @@ export class Erd {
      * and parties. `differences` tells what differs. It throws as `ballots` does.
      */
     ballotDifferences(left: Report, right: Report, options?: Options): BallotDifferences;
+    /**
+     * Tells two ballots beside each other: those of the styles at these positions, as `ballotDifferences` tells them. It throws as
+     * `ballots` does.
+     */
+    ballotsBeside(left: Report, right: Report, leftPosition: number, rightPosition: number, options?: Options): BallotsBeside;
     /**
      * What steps make of a report: what they did, as `erd_prepare` of the C library tells it in JSON, and the bytes of the copy; null if
      * the report is not JSON. `Preparation` of `erd/prepare` reads it.

@@ -1,7 +1,7 @@
 // erd: canonical form, check and comparison of pre-election ballot definitions.
 import { Erd } from './lib/calls.mjs';
 
-export { BallotDifferences, Ballots, OneBallot } from './lib/ballots.mjs';
+export { BallotDifferences, Ballots, BallotsBeside, OneBallot } from './lib/ballots.mjs';
 export { Erd, MOST_BYTES, MOST_LISTED, NoMemoryError, TooLongError } from './lib/calls.mjs';
 export { TrapError } from './lib/engine.mjs';
 export { repeatedNames } from './lib/repeated.mjs';

@@ -1,4 +1,4 @@
-import { Erd } from './index.js';
+import { Compared, Erd, Options } from './index.js';
 
 /** A step, in the order in which they are done. */
 export interface Step {
@@ -54,6 +54,9 @@ export function stepsOf(...groups: Step['group'][]): string[];
 /** What to do about a fault that is left, by the number of its reason: the steps that may fix it, and what to ask the vendor for. */
 export function remedyOf(reason: number): { steps: string[]; letter: string };
 
+/** The line that `erd prepare` writes about a reason that is left, without its line feed. */
+export function lineOfRemedy(reason: number): string;
+
 /** A file that is being prepared. */
 export class Preparation {
     constructor(bytes: Uint8Array, erd: Erd);
@@ -74,3 +77,18 @@ export function told(done: Done): {
     left: { pointer: string; why: string }[];
     more: boolean;
 };
+
+/** A copy on which steps were done. */
+export interface Copy {
+    bytes: Uint8Array;
+    /** What each step did. */
+    steps: Done[];
+}
+
+/**
+ * Does the same steps on copies of two reports, and compares the copies. If a copy is refused, the comparison has its faults.
+ * @throws {Error} if the bytes of one are not JSON
+ * @throws {RangeError} for a name that no step has
+ */
+export function comparePrepared(left: Uint8Array, right: Uint8Array, names: Iterable<string>, erd: Erd, options?: Options):
+    { compared: Compared; left: Copy; right: Copy };

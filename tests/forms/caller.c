@@ -63,7 +63,9 @@ static const struct {
 static const struct {
     const char *name;
     of_pieces *call;
-} of_lists[] = {{"differences", erd_differences}, {"differences_data", erd_differences_data}};
+} of_lists[] = {{"differences", erd_differences},
+                {"differences_data", erd_differences_data},
+                {"differences_values", erd_differences_values}};
 
 #define COUNT(table) (sizeof(table) / sizeof(table)[0])
 

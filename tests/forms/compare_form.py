@@ -42,7 +42,8 @@ class Question:
         if rest[0] == '--json':
             # An answer as data has no line feed; that of the program has one.
             output, errors, status = expected
-            self.command, rest, self.expected = self.command + '_data', rest[1:], (output.removesuffix(b'\n'), errors, status)
+            self.command += '_values' if self.command == 'differences' else '_data'
+            rest, self.expected = rest[1:], (output.removesuffix(b'\n'), errors, status)
         self.prefer = rest[1] if rest[0] == '--prefer' else None
         self.files = rest[2:] if rest[0] == '--prefer' else rest
 
@@ -92,12 +93,14 @@ def of_random_reports(program, count, seed, folder):
 
 
 def as_data(native, questions):
-    """The same checks and lists of what differs once more, answered as data, with what the native library answers."""
+    """The same checks and lists of what differs once more, answered as data, lists with values and without, with what the native library
+    answers."""
     asked = []
     for question in questions:
-        if question.command != 'canon' and not question.command.endswith('_data'):
-            asked.append(copy.copy(question))
-            asked[-1].command += '_data'
+        for kind in ('_data', '_values') if question.command == 'differences' else ('_data',):
+            if question.command in ('check', 'compare', 'differences'):
+                asked.append(copy.copy(question))
+                asked[-1].command += kind
     return answered(native, asked)
 
 

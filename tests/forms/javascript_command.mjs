@@ -1,14 +1,16 @@
 // Tries the command of the package for JavaScript on the conformance suite, in this process: `node javascript_command.mjs PACKAGE`,
 // the folder of the package with its erd.wasm. It takes each case of two reports and each case with a preference, which tell
-// exchanged files and a lost preference; tests/forms/javascript_package.sh starts the command itself. One line for each case that
-// fails; at the end stand the counts.
-import fs, { existsSync, readdirSync, readFileSync } from 'node:fs';
+// exchanged files and a lost preference, and some files of its own; tests/forms/javascript_package.sh starts the command itself. One line
+// for each case that fails; at the end stand the counts.
+import fs, { existsSync, mkdtempSync, readdirSync, readFileSync, rmSync, truncateSync, writeFileSync } from 'node:fs';
 import { syncBuiltinESMExports } from 'node:module';
+import { tmpdir } from 'node:os';
 import { join, resolve } from 'node:path';
 import { pathToFileURL } from 'node:url';
 
 const SUITE = new URL('../../out/conformance/', import.meta.url).pathname;
 const COMMAND = pathToFileURL(join(resolve(process.argv[2]), 'erd.mjs'));
+const MOST_BYTES = 67108864;
 const STATUSES = { 'accepted\n': 0, 'same\n': 0, 'not JSON\n': 2, 'left: not JSON\n': 2, 'right: not JSON\n': 2 };
 const failures = [];
 let passed = 0;
@@ -75,6 +77,32 @@ for (const name of readdirSync(SUITE)) {
         await tryRun(name, ['canon', ...words, file], form === null ? [status, '', lines] : [0, form, '']);
     }
 }
+
+// The longest report, and one that is a byte longer: zero bytes.
+const room = mkdtempSync(join(tmpdir(), 'erd-'));
+const report = join(room, 'report.json');
+writeFileSync(report, '');
+truncateSync(report, MOST_BYTES);
+await tryRun('the longest report', ['check', report], [2, 'not JSON\n', '']);
+truncateSync(report, MOST_BYTES + 1);
+await tryRun('a report that is too long', ['check', report], [3, '', 'too long\n']);
+
+// Of two reports the right one has more faults than a call lists. The command writes all of them.
+writeFileSync(report, JSON.stringify({ '@type': 'ElectionResults.ElectionReport', Status: 'pre-election', Election: [], GpUnit: Array(1500).fill(1) }));
+const faults = ['/Election: wrong number of elections', ...Array.from({ length: 1500 }, (_, at) => `/GpUnit/${at}: wrong kind`)];
+const accepted = join(SUITE, 'canonical-one-unit', 'input.json');
+await tryRun('ballots of a report with many faults', ['ballots', accepted, report], [1, faults.map((line) => `right: ${line}\n`).join(''), '']);
+
+// The report on steps tells of a step that was not done.
+writeFileSync(report, '{"Notes":null}');
+const [status, told] = await ran(['prepare', '--report', '--steps', 'codes', report]);
+const [{ step, done, count } = {}] = status === 0 ? JSON.parse(told) : [];
+if (step === 'nulls' && done === false && count === 1) {
+    passed++;
+} else {
+    failures.push(`the report on steps that were not done: ${status} ${told.slice(0, 300)}`);
+}
+rmSync(room, { recursive: true });
 
 writeSync(1, failures.map((failure) => `FAILED  ${failure}\n`).join('') + `${passed} passed, ${failures.length} failed\n`);
 process.exitCode = failures.length === 0 ? 0 : 1;

@@ -3,7 +3,9 @@
 import { existsSync, readdirSync, readFileSync } from 'node:fs';
 import { load, MOST_BYTES, NoMemoryError, repeatedNames, TooLongError, TrapError } from '../../bindings/js/index.mjs';
 import { compactText } from '../../bindings/js/lib/exact.mjs';
-import { Preparation, remedyOf, STEPS, stepsOf, told } from '../../bindings/js/lib/prepare/prepared.mjs';
+import { comparePrepared, lineOfRemedy, Preparation, remedyOf, STEPS, stepsOf, told } from '../../bindings/js/lib/prepare/prepared.mjs';
+import { compactText as treeText, readTree } from '../../bindings/js/lib/tree.mjs';
+import { visible } from '../../bindings/js/lib/words.mjs';
 import { withMostPages } from '../shared/less_memory.mjs';
 
 const SUITE = new URL('../../out/conformance/', import.meta.url);
@@ -127,6 +129,9 @@ equal('all faults', erd.check(many.replace(/n{20000}/, 'n'), { mostFaults: null 
 equal('a thousand faults', erd.check(many.replace(/n{20000}/, 'n')).faults.length, 1000);
 const pieces = [...erd.written('check', [many])];
 equal('pieces of the lines', pieces.length > 90, true);
+equal('the results of the pieces', [...erd.checkedByPieces(many)].map(({ text }) => text).join(''), written('check', [many], {}));
+const accepted = readFileSync(new URL('../../examples/one-unit.json', import.meta.url));
+equal('the only result', [accepted, '{'].map((report) => [...erd.checkedByPieces(report)].map(({ text }) => text).join('|')).join(''), 'accepted\nnot JSON\n');
 equal('each piece has its own bytes', new TextDecoder().decode(pieces[0].bytes.subarray(0, 9)), '/Election');
 equal('what is taken of the pieces', [...erd.written('check', [many], {}, (bytes, status) => bytes.length * status)].map(({ bytes }) => bytes).join(),
     pieces.map(({ bytes }) => bytes.length).join());
@@ -171,6 +176,7 @@ equal('all differences', `${wholeList.differences.length} ${wholeList.allDiffere
 equal('their keys', wholeList.differences.every(({ key }, index) => key[2] === `C-${10000 + index}`), true);
 equal('what differs inside each', JSON.stringify([...new Set(wholeList.differences.map(({ selections }) => JSON.stringify(selections)))]),
     JSON.stringify(['[{"name":["ElectionResults.CandidateSelection",[],false,null,null,["a","","S"]],"how":"member","member":"Note"}]']));
+equal('no values of selections', wholeList.differences.some((difference) => 'values' in difference), false);
 // The text of what differs inside each contest has 600 kB here. Two are more than a megabyte.
 const wide = [1, 2].map((note) => contests(3, note, 'a').replaceAll('"Type":"a"', `"Type":"${'a'.repeat(600_000)}"`));
 equal('names that are too long together', erd.differences(...wide).differences.map(({ selections }) => selections?.length).join(), '1,,');
@@ -193,6 +199,8 @@ equal('a part of an ArrayBuffer', erd.canonical(new Uint8Array(Buffer.concat([Bu
 equal('an ArrayBuffer', erd.canonical(new Uint8Array(bytes).buffer).text, form);
 equal('a string', erd.canonical(bytes.toString()).text, form);
 equal('the number of differences', erd.differences(bytes, bytes).allDifferences, 0);
+const [renamed] = erd.differences(bytes, bytes.toString().replace('"Governor"', '"Regent"')).differences;
+equal('what each report has', JSON.stringify(renamed.values), '{"left":"Governor","right":"Regent"}');
 equal('no bytes', erd.check(new Uint8Array(0)).outcome, 'not JSON');
 const TELLING = [(report, mostFaults) => erd.check(report, { mostFaults }), (report, mostFaults) => erd.canonical(report, { mostFaults }),
     (report, mostFaults) => erd.compare(report, report, { mostFaults }), (report, mostDifferences) => erd.differences(report, report, { mostDifferences })];
@@ -299,6 +307,7 @@ const PREPARED = [
     ['a mark that stays', `\ufeff{"Notes":null,${REPORT}}`, ['nulls'], `\ufeff{${REPORT}}`, [NULL_NOTES]],
     ['a mark that goes', `\ufeff{"Notes":null,${REPORT}}`, stepsOf('removed'), `{${REPORT}}`, [MARK_GONE, NULL_NOTES]],
     ['a mark alone', `\ufeff{ ${REPORT}}`, ['byte-order-mark'], `{ ${REPORT}}`, [MARK_GONE]],
+    ['a number that is written in another way', `{${REPORT},"a":1.50}`, ['nulls'], `{${REPORT},"a":1.50}`, []],
     ['a place of the file', `{"a/b":[1,{"x":null}],${REPORT}}`, ['nulls'], `{${REPORT},"a/b":[1,{}]}`,
         [{ ...NULL_NOTES, changes: [{ pointer: '/a~1b/1/x', before: 'null', after: null }] }]],
 ];
@@ -313,16 +322,32 @@ equal('prepared: what other steps would do', others.steps.map((step) => `${step.
 const aLongList = new Preparation(encoder.encode(`{${REPORT},"a":[${Array(1500).fill('{"x":null}')}]}`), erd).prepare(['nulls']).steps;
 equal('prepared: a long list', aLongList.map(({ made, count, more }) => `${made.length} ${count} ${more}`).join(), '1000 1500 true');
 equal('prepared: what to do about a fault that is left', JSON.stringify([11, 16].map((reason) => remedyOf(reason).steps)), '[["repeated"],[]]');
+equal('prepared: the line about a reason that is left', lineOfRemedy(11),
+    'reason 11 (repeated): steps that may fix it: repeated; otherwise ask the vendor: Write each entry of a set once. If another one was meant, write that.');
+equal('prepared: the line about a reason that no step fixes', lineOfRemedy(9),
+    'reason 9 (wrong number of elections): no step fixes it; ask the vendor: Send the report with its election.');
 const ofPage = JSON.parse(readFileSync(new URL('../../web/texts.en.json', import.meta.url)));
 equal('prepared: the words of the page', JSON.stringify(STEPS.map(({ title, does, loses }) => [title, does, loses])),
     JSON.stringify(STEPS.map(({ name }) => ['', '.does', '.loses'].map((part) => ofPage[`step.${name}${part}`]))));
 equal('prepared: the steps', STEPS.every(({ group, title, does, loses }) => [group, title, does, loses].every((text) => text.length > 5)), true);
+const nulled = (name) => encoder.encode(accepted.toString().replace('"Name":"Test"', `"Name":"${name}","OtherType":null`));
+for (const [name, names, wanted] of [['Test', ['nulls'], 'same\n'], ['Other', ['nulls'], 'election: member "Name"\n'], ['Test', [], 'left: /Election/0/OtherType: wrong kind\n']]) {
+    const { compared, left, right } = comparePrepared(nulled('Test'), nulled(name), names.values(), erd);
+    equal(`prepared alike, ${name} by ${names.length}: the comparison`, compared.text, wanted);
+    equal(`prepared alike, ${name} by ${names.length}: the steps`, [left, right].map(({ steps }) => steps.length).join(), `${names.length},${names.length}`);
+}
+equal('prepared alike: the preferred type', comparePrepared(nulled('Test'), nulled('Test'), ['nulls'], erd, { prefer: 'none' }).compared.outcome, 'same');
 throws('prepared: no JSON', Error, () => new Preparation(encoder.encode('{'), erd).prepare([]));
 throws('prepared: a name that no step has', RangeError, () => new Preparation(encoder.encode('{}'), erd).prepare(['nosuch']));
 throws('prepared: a word that names nothing', RangeError, () => erd.prepared('{}', 'nulls,'));
 throws('prepared: a zero character', RangeError, () => erd.prepared('{}', 'nulls\0'));
 equal('prepared: no JSON for the call', erd.prepared('{', 'nulls'), null);
 throws('prepared: a report that is too long', TooLongError, () => erd.prepared(new Uint8Array(MOST_BYTES + 1), ''));
+
+// Numbers as they are written, and no text that begins a line for some programs alone.
+const WRITTEN = '{"b":-1.50,"a":[-0,1E5,"\u2028"]}';
+equal('a tree as it is written', treeText(readTree(encoder.encode(WRITTEN))), WRITTEN);
+equal('line separators are visible', visible('a\u2028b\u2029'), 'a\\u{2028}b\\u{2029}');
 
 // The ballots: those of an example, and which differ where a style has one line less and another style is gone.
 const county = fileOf(EXAMPLES, 'county.vendor-a.json');
@@ -334,6 +359,11 @@ equal('ballots: the keys', heads.map(({ key }) => key[2]).join(), 'BS-1,BS-2,BS-
 equal('ballots: the positions', heads.map(({ position }) => codeOf(styles[position])).join(), 'BS-1,BS-2,BS-3,BS-4');
 equal('ballots: one of them', erd.ballot(county, heads[1].position).ballot.key.join(), heads[1].key.join());
 equal('ballots: its lines', erd.ballot(county, heads[1].position).ballot.lines.length, heads[1].allLines);
+const coded = JSON.parse(county);
+for (const { ExternalIdentifier: codes } of coded.Election[0].BallotStyle) {
+    codes.push({ ...codes[0], Type: 'fips', Value: `F-${codes[0].Value}` });
+}
+equal('ballots: one of them under a preference', erd.ballot(JSON.stringify(coded), 0, { prefer: 'fips' }).ballot.key.join(), `fips,,F-${codeOf(styles[0])}`);
 equal('ballots: none there', erd.ballot(county, styles.length).ballot, null);
 equal('ballots: of a refused report', erd.ballots('{').text, 'not JSON\n');
 equal('ballots: the same', erd.ballotDifferences(county, other).text, 'same ballots\n');
@@ -343,6 +373,7 @@ cut.Election[0].BallotStyle.find((style) => codeOf(style) === 'BS-2').OrderedCon
 const shorter = JSON.stringify(cut);
 const notTheSame = erd.ballotDifferences(county, shorter);
 equal('ballots: not the same', notTheSame.differences.map(({ key, how }) => `${key[2]} ${how}`).join(), 'BS-1 only left,BS-2 differs');
+equal('ballots: what differs on them', notTheSame.differences.flatMap(({ below }) => below).join(), '  removed header ["local-level","","H-END"]');
 equal('ballots: their status', notTheSame.status, 1);
 equal('ballots: the other way round', erd.ballotDifferences(shorter, county).differences.some(({ how }) => how === 'only right'), true);
 // With another number of votes in one contest, the ballots that list it differ.
@@ -352,6 +383,16 @@ const lists = (entries) => entries.some((it) => it.ContestId === contest['@id'] 
 contest.VotesAllowed += 1;
 equal('ballots: other words', erd.ballotDifferences(county, JSON.stringify(votes)).differences.map(({ key, how }) => `${key[2]} ${how}`).join(),
     styles.filter((it) => lists(it.OrderedContent)).map((it) => `${codeOf(it)} differs`).sort().join());
+const rowsOf = (one, to, left, right) => erd.ballotsBeside(one, to, left, right).ballots.rows;
+const at = heads.find(({ key }) => key[2] === 'BS-2').position;
+const place = notTheSame.differences.find(({ key }) => key[2] === 'BS-2');
+equal('ballots: beside each other', rowsOf(county, shorter, place.left, place.right).map(({ how }) => how).filter((how) => how !== 'both').every((how) => how === 'removed'), true);
+equal('ballots: beside itself', rowsOf(county, county, at, at).map(({ how, left, right }) => `${how} ${left} ${right}`).join(),
+    Array.from({ length: heads.find(({ position }) => position === at).allLines }, (_, line) => `both ${line} ${line}`).join());
+equal('ballots: beside none', erd.ballotsBeside(county, county, at, styles.length).ballots, null);
+equal('ballots: beside a refused one', (({ side, outcome, ballots }) => [side, outcome, ballots].join())(erd.ballotsBeside(county, '{', at, at)), 'right,not JSON,');
+equal('ballots: the contest with other words', [...new Set(erd.ballotDifferences(county, JSON.stringify(votes)).differences.map(({ below }) => below.join()))].join(),
+    '  changed contest ["local-level","","C-SCHOOL"]');
 equal('ballots: the right report is refused', erd.ballotDifferences(county, '{').text, 'right: not JSON\n');
 throws('ballots: no position', TypeError, () => erd.ballot(county, -1));
 

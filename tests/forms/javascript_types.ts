@@ -1,5 +1,5 @@
 // A caller of the package whose types are checked: each result and each option once.
-import { Canonical, Checked, Compared, Difference, Differences, Erd, Fault, load, MOST_BYTES, NoMemoryError, SelectionDifference, SelectionName, TooLongError, TrapError } from 'erd';
+import { Canonical, Checked, Compared, Difference, Differences, Erd, Fault, Json, load, MOST_BYTES, NoMemoryError, SelectionDifference, SelectionName, TooLongError, TrapError } from 'erd';
 
 const erd: Erd = await load(new Uint8Array(MOST_BYTES));
 const checked: Checked = erd.check('{}', { prefer: 'fips' });
@@ -12,6 +12,7 @@ const compared: Compared = erd.compare(new Uint8Array(1), '', { prefer: null });
 const difference: Difference | null = compared.difference;
 const all: Differences = erd.differences('', '', { prefer: 'fips', mostDifferences: null });
 const counts: number[] = [erd.check('', { mostFaults: 5 }).allFaults, all.allDifferences, all.differences.length];
+const values: (Json | undefined)[] = [all.differences[0].values?.left, all.differences[0].values?.right];
 const inside: SelectionDifference[] = all.differences[0].selections ?? [];
 const selection: SelectionName = inside[0].name;
 const order: number | bigint | null = selection[3];
@@ -20,6 +21,7 @@ const { request } = erd.commandLine(['check', 'a.json']);
 const files: string[] = request?.files ?? [];
 const pieces: Uint8Array[] = [...erd.written('differences', ['', ''])].map((piece) => piece.bytes);
 const taken: number[] = [...erd.written('check', [''], {}, (some, outcome) => some.length + outcome)].map((piece) => piece.bytes);
+const results: boolean[] = [...erd.checkedByPieces('', { prefer: 'fips' })].map(({ accepted }) => accepted);
 const side: 'left' | 'right' | null = compared.side;
 const text: string = checked.text + canonical.text + compared.text;
 const errors: Error[] = [new TooLongError(), new NoMemoryError(), new TrapError()];
@@ -27,15 +29,18 @@ const errors: Error[] = [new TooLongError(), new NoMemoryError(), new TrapError(
 erd.check(5);
 // @ts-expect-error: there is no such option
 erd.check('', { preferred: 'fips' });
-export { bytes, counts, difference, errors, files, more, order, pieces, name, side, steps, taken, text };
+export { bytes, counts, difference, errors, files, more, order, pieces, name, results, side, steps, taken, text, values };
 
-import { Preparation, remedyOf, stepsOf, told } from 'erd/prepare';
+import { comparePrepared, Copy, lineOfRemedy, Preparation, remedyOf, stepsOf, told } from 'erd/prepare';
 
 const prepared = new Preparation(new Uint8Array(), erd).prepare(stepsOf('removed'), { tellsOthers: true });
-const letters: string[] = [remedyOf(8).letter, ...remedyOf(8).steps];
+const copies: { left: Copy; right: Copy } = comparePrepared(new Uint8Array(), new Uint8Array(), stepsOf('removed'), erd, { prefer: 'fips' });
+const letters: string[] = [remedyOf(8).letter, ...remedyOf(8).steps, lineOfRemedy(8)];
 const lengths: number[] = [prepared.bytes.length, letters.length, ...prepared.steps.map((step) => told(step).changes.length)];
 const positions: number[] = erd.ballots('').ballots.map((ballot) => ballot.position);
 const depths: number[] = erd.ballot('', 0)?.ballot?.lines.map((line) => line.depth) ?? [];
 const ways: ('only left' | 'only right' | 'differs')[] = erd.ballotDifferences('', '').differences.map((ballot) => ballot.how);
+const rows: [string, number | null, string[]][] = (erd.ballotsBeside('', '', 0, 0).ballots?.rows ?? [])
+    .map((row) => [row.how, row.left, row.selections.map((selection) => selection.name[0])]);
 // @ts-expect-error no such group
 stepsOf('none');

@@ -82,6 +82,7 @@ completed 'no second file of canon' 'erd canon left.json r\t' canon left.json r
 completed 'the first file of compare' 'erd compare r\t' compare right.json
 completed 'the second file of compare' 'erd compare left.json r\t' compare left.json right.json
 completed 'the second file of differences' 'erd differences left.json r\t' differences left.json right.json
+completed 'the second file of ballots' 'erd ballots left.json r\t' ballots left.json right.json
 completed 'no third file of compare' 'erd compare left.json right.json r\t' compare left.json right.json r
 completed 'the option' 'erd check --p\t' check --prefer
 # Of each subcommand the options that its help lists.

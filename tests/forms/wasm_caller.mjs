@@ -5,11 +5,11 @@ import { readFileSync, writeSync } from 'node:fs';
 const CALLS = {
     check: 'erd_check', canon: 'erd_canonical', compare: 'erd_compare',
     check_data: 'erd_check_data', compare_data: 'erd_compare_data',
-    differences: 'erd_differences', differences_data: 'erd_differences_data',
+    differences: 'erd_differences', differences_data: 'erd_differences_data', differences_values: 'erd_differences_values',
     prepare: 'erd_prepare',
 };
 // The calls that have a whole list where they get no piece.
-const LISTS = new Set(['differences', 'differences_data']);
+const LISTS = new Set(['differences', 'differences_data', 'differences_values']);
 
 const module = new WebAssembly.Module(readFileSync(process.argv[2]));
 if (WebAssembly.Module.imports(module).length > 0) throw new Error('erd.wasm has imports');

@@ -163,6 +163,7 @@ refused compare-data "$one" "$small"
 sed 's/"IsWriteIn":true/&,"SequenceOrder":2/; s/"CandidateIds":\["a7"\]/&,"Note":1/; s/"BallotName":"Cy"/"BallotName":"Cyd"/' "$small" > "$work/selections.json"
 refused differences "$small" "$work/selections.json"
 refused differences-data "$small" "$work/selections.json"
+refused differences-values "$small" "$work/selections.json"
 refused line erd compare --prefer local-level "$one" "$small"
 refused line erd check --help
 refused line erd nosuch

@@ -12,12 +12,13 @@ static const uint8_t *last_prefer;
 static int last_call;
 static const char *why;
 
-enum { SIZE = 1000, FIRST_OF_PIECES = 5, BALLOTS_CALL = 13, BALLOT_CALL, BALLOT_DIFFERENCES_CALL, CALLS, LINE = CALLS, PREPARE,
-       POSITION = 23, MEBIBYTE = 1048576, ROOM_OF_MEBIBYTE = MEBIBYTE + MEBIBYTE / 16 + 4096 };
+enum { SIZE = 1000, FIRST_OF_PIECES = 5, BALLOTS_CALL = 14, BALLOT_CALL, BALLOT_DIFFERENCES_CALL, BALLOTS_BESIDE_CALL, CALLS, LINE = CALLS, PREPARE,
+       POSITION = 23, OTHER_POSITION = 29, MEBIBYTE = 1048576, ROOM_OF_MEBIBYTE = MEBIBYTE + MEBIBYTE / 16 + 4096 };
 static const char *const names[CALLS + 2] = {"check",      "canonical",        "compare",            "check_data",
                                              "compare_data", "check_data_piece", "compare_data_piece", "canonical_data_piece",
                                              "differences_data", "check_piece", "compare_piece", "canonical_piece",
-                                             "differences", "ballots", "ballot", "ballot_differences", "command_line", "prepare"};
+                                             "differences", "differences_values", "ballots", "ballot", "ballot_differences", "ballots_beside",
+                                             "command_line", "prepare"};
 static const char report[SIZE];
 
 static uint8_t letter(size_t at) {
@@ -107,6 +108,7 @@ OF_REPORT(erd_tell_check_piece, 9)
 OF_PAIR(erd_tell_compare_piece, 10)
 OF_REPORT(erd_tell_canonical_piece, 11)
 OF_PAIR(erd_tell_differences, 12)
+OF_PAIR(erd_tell_differences_values, 13)
 
 static size_t last_position;
 
@@ -128,6 +130,17 @@ struct told erd_tell_ballot_differences(const uint8_t *left, size_t left_size, c
                                         size_t room_size) {
     (void)left_size, (void)right_size;
     return told_report(BALLOT_DIFFERENCES_CALL, left == NULL ? left : right, prefers, prefer, prefer_size, room, room_size);
+}
+
+static size_t last_other_position;
+
+struct told erd_tell_ballots_beside(const uint8_t *left, size_t left_size, const uint8_t *right, size_t right_size,
+                                    const uint8_t *prefer, size_t prefer_size, const struct positions *at, uint8_t *room,
+                                    size_t room_size) {
+    (void)left_size, (void)right_size;
+    last_position = at->left;
+    last_other_position = at->right;
+    return told_report(BALLOTS_BESIDE_CALL, left == NULL ? left : right, at->prefers, prefer, prefer_size, room, room_size);
 }
 
 struct told erd_tell_command_line(const uint8_t *words, size_t size, uint8_t *room, size_t room_size) {
@@ -163,8 +176,10 @@ static enum erd_outcome asked_for_piece(int call, struct bytes it, const char *p
         return erd_compare_piece(it.at, it.size, it.at, it.size, prefer, piece, text, length);
     case 11:
         return erd_canonical_piece(it.at, it.size, prefer, piece, text, length);
-    default:
+    case 12:
         return erd_differences(it.at, it.size, it.at, it.size, prefer, piece, text, length);
+    default:
+        return erd_differences_values(it.at, it.size, it.at, it.size, prefer, piece, text, length);
     }
 }
 
@@ -186,6 +201,8 @@ static enum erd_outcome asked(int call, const void *bytes, size_t size, const ch
         return erd_ballot(bytes, size, prefer, POSITION, text, length);
     case BALLOT_DIFFERENCES_CALL:
         return erd_ballot_differences(bytes, size, bytes, size, prefer, text, length);
+    case BALLOTS_BESIDE_CALL:
+        return erd_ballots_beside(bytes, size, bytes, size, prefer, POSITION, OTHER_POSITION, text, length);
     default:
         return asked_for_piece(call, (struct bytes){bytes, size}, prefer, NULL, text, length);
     }
@@ -209,7 +226,8 @@ static void text_of_length(int call, size_t wanted) {
     calls = 0;
     if (asked(call, report, SIZE, NULL, &text, &length) != ERD_BAD || text == NULL || length != wanted)
         why = "another answer";
-    else if (last_call != call || (call == BALLOT_CALL && last_position != POSITION))
+    else if (last_call != call || ((call == BALLOT_CALL || call == BALLOTS_BESIDE_CALL) && last_position != POSITION)
+             || (call == BALLOTS_BESIDE_CALL && last_other_position != OTHER_POSITION))
         why = "another call";
     else if (calls != (wanted > room ? 2 : 1))
         why = "another number of calls";

@@ -1,6 +1,7 @@
 /* Calls the C library as the program would be called: `library [check|canon|compare [--prefer TYPE] FILE ..]`. The words
- * `check-data` and `compare-data` ask for the same as JSON, and `differences` and `differences-data` for all differences. With `library threads FILE` several threads call at once, and with
- * `library odd FILE` the calls are handed unusual arguments. `library line WORD ..` parses the words as a command line. */
+ * `check-data` and `compare-data` ask for the same as JSON, and `differences`, `differences-data` and `differences-values` for all
+ * differences. With `library threads FILE` several threads call at once, and with `library odd FILE` the calls are handed unusual
+ * arguments. `library line WORD ..` parses the words as a command line. */
 #include "../../bindings/c/erd.h"
 
 #include <pthread.h>
@@ -44,10 +45,10 @@ static int run(const char *command, const char *prefer, const char *left_name, c
         outcome = (is_data ? erd_compare_data : erd_compare)(left.bytes, left.size, right.bytes, right.size, prefer, &text,
                                                              &length);
     } else if (strncmp(command, "differences", 11) == 0) {
-        int is_data = strcmp(command, "differences-data") == 0;
+        int is_data = strcmp(command, "differences-data") == 0, has_values = strcmp(command, "differences-values") == 0;
         right = read_file(right_name);
-        outcome = (is_data ? erd_differences_data : erd_differences)(left.bytes, left.size, right.bytes, right.size, prefer, NULL,
-                                                                     &text, &length);
+        outcome = (has_values ? erd_differences_values : is_data ? erd_differences_data : erd_differences)(
+            left.bytes, left.size, right.bytes, right.size, prefer, NULL, &text, &length);
     } else if (strcmp(command, "check") == 0) {
         outcome = erd_check(left.bytes, left.size, prefer, &text, &length);
     } else if (strcmp(command, "check-data") == 0) {
@@ -246,8 +247,16 @@ static int odd_preparations(void) {
 #define LISTED BALLOTS(",\"OrderedContestSelectionIds\":[\"s1\"]")
 #define UNLISTED BALLOTS("")
 
+/* The names of its selections, and the line of its contest, as JSON. */
+#define ANN "[\"ElectionResults.CandidateSelection\",[[\"local-level\",\"\",\"K1\"]],false,null,null,null]"
+#define WRITE_IN "[\"ElectionResults.CandidateSelection\",[],true,null,null,null]"
+#define LINE(listed, names)                                                                                                    \
+    "{\"depth\":0,\"listed\":" listed ",\"selections\":[" names "],\"what\":[\"contest\",[\"local-level\",\"\",\"C1\"]]}"
+
 static enum erd_outcome ask_for_ballots(const char *left, const char *right, size_t position, const char *prefer, char **text,
                                         size_t *length) {
+    if (right != NULL && position < SIZE_MAX)
+        return erd_ballots_beside(left, strlen(left), right, strlen(right), prefer, 0, position, text, length);
     if (right != NULL)
         return erd_ballot_differences(left, strlen(left), right, strlen(right), prefer, text, length);
     if (position < SIZE_MAX)
@@ -273,14 +282,23 @@ static int odd_ballots(void) {
          "null]],\"what\":[\"contest\",[\"local-level\",\"\",\"C1\"]]}],\"parties\":[],\"units\":[[\"fips\",\"\","
          "\"20\"]]}"},
         {LISTED, NULL, 1, ERD_GOOD, "null"},
-        {LISTED, LISTED, 0, ERD_GOOD, "[]"},
-        {LISTED, UNLISTED, 0, ERD_BAD, "[{\"key\":[\"local-level\",\"\",\"B1\"],\"left\":0,\"right\":0}]"},
+        {LISTED, LISTED, SIZE_MAX, ERD_GOOD, "[]"},
+        {LISTED, UNLISTED, SIZE_MAX, ERD_BAD,
+         "[{\"below\":\"  changed contest [\\\"local-level\\\",\\\"\\\",\\\"C1\\\"]\\n    added selection "
+         "[\\\"ElectionResults.CandidateSelection\\\",[],true,null,null,null]\\n\",\"key\":[\"local-level\",\"\",\"B1\"],"
+         "\"left\":0,\"right\":0}]"},
         {"{", NULL, SIZE_MAX, ERD_NOT_JSON, "\"not JSON\""},
         {"{", NULL, 0, ERD_NOT_JSON, "\"not JSON\""},
         {REPORT "}", NULL, SIZE_MAX, ERD_BAD, faults},
         {REPORT "}", NULL, 0, ERD_BAD, faults},
+        {LISTED, "{", SIZE_MAX, ERD_NOT_JSON, "{\"faults\":\"not JSON\",\"refused\":\"right\"}"},
+        {"{", LISTED, SIZE_MAX, ERD_NOT_JSON, "{\"faults\":\"not JSON\",\"refused\":\"left\"}"},
+        {LISTED, UNLISTED, 0, ERD_GOOD,
+         "{\"left\":[" LINE("true", ANN) "],\"right\":[" LINE("false", WRITE_IN "," ANN)
+         "],\"rows\":[{\"how\":\"both\",\"left\":0,\"right\":0,\"selections\":[{\"how\":\"added\",\"name\":" WRITE_IN
+         "},{\"how\":\"both\",\"name\":" ANN "}]}]}"},
+        {LISTED, LISTED, 1, ERD_GOOD, "null"},
         {LISTED, "{", 0, ERD_NOT_JSON, "{\"faults\":\"not JSON\",\"refused\":\"right\"}"},
-        {"{", LISTED, 0, ERD_NOT_JSON, "{\"faults\":\"not JSON\",\"refused\":\"left\"}"},
     };
     for (size_t at = 0; at < sizeof rows / sizeof *rows; at++) {
         char *text = "";

@@ -22,14 +22,15 @@ class Listed:
 
     def __init__(self, left, right):
         self.entries = list(erd_reference.entries(left, right))
+        self.data = list(erd_reference.valued_entries(left, right))
         self.outcome = 1 if self.entries else 0
 
-    def told(self, first, enough_bytes):
+    def told(self, first, enough_bytes, has_values=False):
         """The objects of the entries from the first on. Those inside selections are told as long as their texts fit: behind the first
         entry whose text doesn't fit, none is."""
         room = enough_bytes
-        for entry in self.entries[first:]:
-            data = erd_reference.difference_data(entry)
+        for whole in self.data[first:]:
+            data = {name: value for name, value in whole.items() if has_values or name != 'values'}
             if 'selections' in data:
                 room -= bytes_in_selections(data)
                 if room < 0:
@@ -37,11 +38,15 @@ class Listed:
                     del data['selections']
             yield data
 
-    def piece(self, first, most, enough_bytes):
+    def piece(self, first, most, enough_bytes, has_values=False):
         """The answer with a piece of the list as data: the outcome, the text, and the two numbers that are told."""
-        texts = (erd_reference.compact_text(data) for data in self.told(first, enough_bytes))
+        texts = (erd_reference.compact_text(data) for data in self.told(first, enough_bytes, has_values))
         shown = taken(texts, most, enough_bytes)
         return self.outcome, '[' + ','.join(shown) + ']', len(shown), len(self.entries)
+
+    def valued_piece(self, first, most, enough_bytes):
+        """The same with what each report has."""
+        return self.piece(first, most, enough_bytes, has_values=True)
 
     def lines(self, first, most, enough_bytes):
         """The answer with the lines of a piece of the list."""

@@ -1,5 +1,6 @@
 """Compares the list of all differences of the C library with that of the reference program, on random pairs of reports: each byte,
-outcome and number of `erd_differences_data` and `erd_differences`, with the whole list in one piece, and in pieces of several sizes.
+outcome and number of `erd_differences_data`, `erd_differences_values` and `erd_differences`, with the whole list in one piece, and in
+pieces of several sizes.
 
 usage: lists_agree.py COUNT [SEED]
 
@@ -161,7 +162,8 @@ def sizes_of(found, dice):
 def failure_of_list(library, reports, prefer, found, sizes, whole=True):
     """What is wrong in the answers with the list of two accepted reports, or None: with the whole list, if it is asked for, and with
     one piece after another, for each of these sizes of pieces."""
-    for name, wanted in (('erd_differences_data', found.piece), ('erd_differences', found.lines)):
+    for name, wanted in (('erd_differences_data', found.piece), ('erd_differences_values', found.valued_piece),
+                         ('erd_differences', found.lines)):
         if whole and library.whole(name, reports, prefer) != wanted(0, ALL, ALL)[:2]:
             return f'{name} without a piece:\n{library.whole(name, reports, prefer)}\nreference:\n{wanted(0, ALL, ALL)}'
         for most, enough in [(ALL, ALL)] * whole + sizes:
@@ -174,6 +176,27 @@ def failure_of_list(library, reports, prefer, found, sizes, whole=True):
                 if first >= answer[3]:
                     break
     return None
+
+
+def failure_of_open_list(library, reports, prefer, found, dice):
+    """What is wrong in the list with values as it is opened and handed out, or None. What an entry has inside selections depends on what
+    is kept of the list."""
+    wanted = [without_selections(data) for data in found.data]
+    for most, enough, room in ((ALL, ALL, 0), (1, ALL, 0), (ALL, dice.randrange(1, 2000), dice.randrange(1, 2000))):
+        entries = []
+        for outcome, text, first, told, count in library.opened('erd_differences_values', reports, prefer, most, enough, room):
+            shown = [without_selections(data) for data in json.loads(text)] if text else []
+            if (outcome, first, len(shown), count) != (found.outcome, len(entries), told, len(wanted)):
+                return f'erd_differences_values opened, {most}, {enough}, {room}:\n{outcome} {text} {first} {told} {count}'
+            entries += shown
+        if entries != wanted:
+            return f'erd_differences_values opened, {most}, {enough}, {room}:\n{entries}\nreference:\n{wanted}'
+    return None
+
+
+def without_selections(data):
+    """The object of a difference as JSON reads it, without what differs inside selections."""
+    return json.loads(json.dumps({name: value for name, value in data.items() if name != 'selections'}))
 
 
 def failure_of_many_entries(library):
@@ -238,10 +261,12 @@ def failure_of_line_feeds(library):
 def failure_of_refusal(library, reports, prefer):
     """What is wrong in the answers for two reports of which one is refused, or None."""
     status, value = erd_reference.entries_answer(*reports, None if prefer is None else prefer.decode())
-    outcome, text, told, count = library.piece('erd_differences_data', reports, prefer, 0, ALL, ALL)
     faults = value['faults'] if isinstance(value['faults'], list) else []
-    if (outcome, text, told, count) != (status, erd_reference.compact_text(value), len(faults), len(faults)):
-        return f'erd_differences_data:\n{outcome} {text} {told} {count}\nreference:\n{status} {erd_reference.compact_text(value)}'
+    wanted = (status, erd_reference.compact_text(value), len(faults), len(faults))
+    for name in ('erd_differences_data', 'erd_differences_values'):
+        answer = library.piece(name, reports, prefer, 0, ALL, ALL)
+        if answer != wanted:
+            return f'{name}:\n{answer}\nreference:\n{wanted}'
     return None
 
 
@@ -255,7 +280,8 @@ def tried(library, reports, prefer, dice, seen):
     for entry in found.entries:
         for inside in entry.selections or []:
             seen[f'inside: {inside.how}'] = seen.get(f'inside: {inside.how}', 0) + 1
-    return failure_of_list(library, reports, taken, found, sizes_of(found, dice))
+    return failure_of_list(library, reports, taken, found, sizes_of(found, dice)) \
+        or failure_of_open_list(library, reports, taken, found, dice)
 
 
 def main():

@@ -74,6 +74,7 @@ OF_PAIR(erd_tell_compare_piece, false)
 OF_PAIR(erd_tell_differences, false)
 OF_PAIR(erd_tell_compare_data_piece, true)
 OF_PAIR(erd_tell_differences_data, true)
+OF_PAIR(erd_tell_differences_values, true)
 
 /* The calls that no list is made of are not called here. */
 #define NOT_CALLED(name, ...)                                                                                                  \
@@ -91,6 +92,7 @@ NOT_CALLED(erd_tell_prepared, BYTES(a), BYTES(b), bool c, uint8_t *d, size_t e)
 NOT_CALLED(erd_tell_ballots, BYTES(a), bool b, BYTES(c), uint8_t *d, size_t e)
 NOT_CALLED(erd_tell_ballot, BYTES(a), size_t f, bool b, BYTES(c), uint8_t *d, size_t e)
 NOT_CALLED(erd_tell_ballot_differences, BYTES(a), BYTES(f), bool b, BYTES(c), uint8_t *d, size_t e)
+NOT_CALLED(erd_tell_ballots_beside, BYTES(a), BYTES(f), BYTES(c), const struct positions *b, uint8_t *d, size_t e)
 
 static void said(const char *why, enum erd_listing listing, const char *what) {
     passed += why == NULL;
@@ -175,7 +177,7 @@ static void long_list(void) {
 }
 
 int main(void) {
-    for (int listing = ERD_LIST_CHECK; listing <= ERD_LIST_DIFFERENCES_DATA; listing++) {
+    for (int listing = ERD_LIST_CHECK; listing <= ERD_LIST_DIFFERENCES_VALUES; listing++) {
         bool is_data = listing >= ERD_LIST_CHECK_DATA;
         for (int form = 0; form < 2; form++) {
             has_side = is_data && form == 1;
@@ -191,7 +193,7 @@ int main(void) {
     }
     long_list();
     erd_close(NULL);
-    said(erd_open((enum erd_listing)8, "", 0, "", 0, NULL, 0) == NULL ? NULL : "it was opened", (enum erd_listing)8, "another number");
+    said(erd_open((enum erd_listing)9, "", 0, "", 0, NULL, 0) == NULL ? NULL : "it was opened", (enum erd_listing)9, "another number");
     printf("%u passed, %u failed\n", passed, failed);
     return failed != 0;
 }

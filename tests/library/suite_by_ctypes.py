@@ -57,9 +57,12 @@ def failure_of_pieces(library, command, case, suite, prefer):
     wanted = json.loads(text)
     found = library.piece("erd_differences_data", reports, prefer, 0, ALL, ALL)
     listed = json.loads(found[1])
+    valued = library.piece("erd_differences_values", reports, prefer, 0, ALL, ALL)
     lines, entries = (suite.contents(case, name) for name in ("differences.txt", "entries.json"))
-    if entries is not None and found[1] != entries.decode():
-        return f"the list as data is {found[1]}"
+    if entries is not None and valued[1] != entries.decode():
+        return f"the list with values is {valued[1]}"
+    if (found[0], *found[2:], listed) != (valued[0], *valued[2:], without_values(json.loads(valued[1]))):
+        return f"the list without values is {found}, and with them {valued}"
     if lines is not None and isinstance(listed, list) and differences_text(listed) != lines.decode():
         return f"the list of differences is {listed}"
     if isinstance(wanted, dict) and "refused" not in wanted and not begins_with(listed, wanted):
@@ -70,19 +73,25 @@ def failure_of_pieces(library, command, case, suite, prefer):
                                       List("erd_differences", reports, prefer, found[0], listed, text_of_list)])
 
 
+def without_values(answer):
+    """The list of differences without what each report has there. Why a report is refused stays."""
+    return [{name: value for name, value in entry.items() if name != "values"} for entry in answer] if isinstance(answer, list) else answer
+
+
 def begins_with(listed, difference):
     """Whether the first entry is this difference, but for what differs inside selections."""
     return bool(listed) and {name: value for name, value in listed[0].items() if name != "selections"} == difference
 
 
 def failure_of_entries(library, reports, prefer):
-    """What is wrong in the answers with a piece of the list of differences as data, or None. What an entry has inside depends on the
-    bounds of the piece, so the answers are held against those of the reference program."""
+    """What is wrong in the answers with a piece of the list of differences as data, with values and without, or None. What an entry has
+    inside depends on the bounds of the piece, so the answers are held against those of the reference program."""
     found = list_of(*reports, None if prefer is None else prefer.decode())
-    for bounds in bounds_of([len(compact(data).encode()) for data in found.told(0, ALL)]) if found else ():
-        answer = library.piece("erd_differences_data", reports, prefer, *bounds)
-        if answer != found.piece(*bounds):
-            return f"erd_differences_data of {bounds}: {answer}, and not {found.piece(*bounds)}"
+    for name, has_values in (("erd_differences_data", False), ("erd_differences_values", True)) if found else ():
+        for bounds in bounds_of([len(compact(data).encode()) for data in found.told(0, ALL, has_values)]):
+            answer, wanted = library.piece(name, reports, prefer, *bounds), found.piece(*bounds, has_values)
+            if answer != wanted:
+                return f"{name} of {bounds}: {answer}, and not {wanted}"
     return None
 
 

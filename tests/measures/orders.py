@@ -2,7 +2,8 @@
 members, before long values that are the same. Each command takes at most 1.2 times the instructions of values that differ in the
 first entry of a list. An order that compares the values as well takes two to four times as many. Also `differences --json` on two
 contests whose names of selections are long, of which one differs: at most three times the instructions of `compare`. Names that are
-told apart by their texts take 27 times as many. Needs valgrind and `./erd`. One line a case.
+told apart by their texts take 27 times as many. And on many elections that all differ, at most three times as many too: a search
+through all elections for each of them takes the square of their number. Needs valgrind and `./erd`. One line a case.
 """
 import json
 import os
@@ -14,12 +15,14 @@ from measuring import instructions
 
 sys.path.insert(0, os.path.join(os.path.dirname(os.path.abspath(__file__)), os.pardir, "reports"))
 import hostile_shapes  # noqa: E402
-from reports import identifier, unit  # noqa: E402
+from reports import election, identifier, unit  # noqa: E402
 
 MOST = 1.2
 COUNT, LENGTH = 500, 300
 # Times a comparison, for a candidate whose key has ten times so many bytes, and a tenth as many selections that name this candidate.
 MOST_FOR_NAMES, LONG = 3, 3000
+# Times a comparison, for so many elections of which each differs.
+MOST_FOR_ELECTIONS, MANY = 3, 8000
 
 
 def carrying(member_of):
@@ -60,18 +63,34 @@ def are_names_held(folder):
         made["Election"][0]["Contest"][0]["ContestSelection"][0].update(more)
         with open(path, "w", encoding="utf-8") as file:
             json.dump(made, file)
+    return are_listed(paths, MOST_FOR_NAMES, "long names of selections, of which one differs")
+
+
+def are_elections_held(folder):
+    """Whether the list of differences finds each of many elections in little time."""
+    paths = [os.path.join(folder, name) for name in ("left", "right")]
+    for path, kind in zip(paths, ("general", "primary")):
+        made = hostile_shapes.report_of([unit("u0", "U0")])
+        made["Election"] = [election("u0", Type=kind, ExternalIdentifier=[identifier("E%d" % number)]) for number in range(MANY)]
+        with open(path, "w", encoding="utf-8") as file:
+            json.dump(made, file)
+    return are_listed(paths, MOST_FOR_ELECTIONS, "many elections that all differ")
+
+
+def are_listed(paths, most, what):
+    """Whether all differences of two files are listed in so many times the instructions of a comparison."""
     listed, compared = (instructions(["./erd", *words, *paths], statuses=(1,)) for words in (["differences", "--json"], ["compare"]))
-    print("%s long names of selections, of which one differs: differences --json takes %.2f times the instructions of compare"
-          % ("ok     " if listed <= MOST_FOR_NAMES * compared else "FAILED ", listed / compared), flush=True)
-    return listed <= MOST_FOR_NAMES * compared
+    print("%s %s: differences --json takes %.2f times the instructions of compare"
+          % ("ok     " if listed <= most * compared else "FAILED ", what, listed / compared), flush=True)
+    return listed <= most * compared
 
 
 def main():
     if not shutil.which("valgrind"):
-        print("skipped the values that differ in the names of members, and the long names: install the package valgrind\n0 passed, 0 failed")
+        print("skipped the values that differ in the names of members, long names and elections: install the package valgrind\n0 passed, 0 failed")
         return 0
     with tempfile.TemporaryDirectory() as folder:
-        results = [is_held(command, folder) for command in ("check", "compare")] + [are_names_held(folder)]
+        results = [is_held(command, folder) for command in ("check", "compare")] + [are_names_held(folder), are_elections_held(folder)]
     print("%d passed, %d failed" % (sum(results), len(results) - sum(results)))
     return 0 if all(results) else 1
 

@@ -3,7 +3,7 @@
 // that fails; at the end stand the counts.
 import { BallotAnswers } from '../../web/scripts/ballot_answers.mjs';
 import { Meaning } from '../../web/scripts/meaning.mjs';
-import { leftOutOf } from '../../web/scripts/seen.mjs';
+import { leftOutOf, unseenOf } from '../../web/scripts/seen.mjs';
 import { counts, equal } from './counted.mjs';
 import { identified, label, typed } from './made.mjs';
 
@@ -39,6 +39,7 @@ function report(change = () => {}) {
 
 const key = JSON.stringify(['local-level', '', 'S1']);
 const textsOf = ({ lines }) => lines.map(({ role, texts }) => [role, texts.map(({ pieces }) => pieces.map(({ text }) => text).join('')).join(' / ')]);
+const differing = [{ key: ['local-level', '', 'S1'], left: 0, right: 0, below: '' }];
 const one = new BallotAnswers([report()]);
 const [measure, governor] = one.ballot({ key }).items;
 
@@ -70,14 +71,14 @@ equal('the name of a judge, and the answers', [textsOf(others[2]).filter(([role]
 const ordered = report((election) => { election.BallotStyle[0].OrderedContent[1].OrderedContestSelectionIds = ['cs1', 'cs2']; });
 const other = report((election) => { election.BallotStyle[0].OrderedContent[1].OrderedContestSelectionIds = ['cs2', 'cs1']; });
 for (const [name, left, right] of [['the right file alone', report(), ordered], ['the left file alone', ordered, report()]]) {
-    const two = new BallotAnswers([left, right]);
-    equal(`an order that ${name} fixes: the ballots differ`, two.seen(), { all: 1, differing: 1, same: 0 });
+    const two = new BallotAnswers([left, right], differing);
+    equal(`an order that ${name} fixes: the ballots differ`, two.seen(), { all: 1, differing: 1, same: 0, alike: 0 });
     equal(`an order that ${name} fixes: it is told`, two.ballot({ key }).items.map(({ ordered: isOrder }) => isOrder), [true, false]);
 }
-const two = new BallotAnswers([ordered, other]);
-equal('another order: the ballots differ', two.seen(), { all: 1, differing: 1, same: 0 });
+const two = new BallotAnswers([ordered, other], differing);
+equal('another order: the ballots differ', two.seen(), { all: 1, differing: 1, same: 0, alike: 0 });
 equal('another order: one of two has moved', two.ballot({ key }).items[1].selections.filter(({ mark }) => mark === 'moved').length, 1);
-equal('the same order: the ballots are the same', new BallotAnswers([ordered, ordered]).seen(), { all: 1, differing: 0, same: 1 });
+equal('the same order: the ballots are the same', new BallotAnswers([ordered, ordered]).seen(), { all: 1, differing: 0, same: 1, alike: 0 });
 
 // What the file says of the candidates stands below their names, and rotation where the file says so.
 function known(election, [first, second], rotation) {
@@ -112,8 +113,8 @@ equal('titles in no language alone', lackingIn(titled('Measure A', 'Governor')),
 // What one file lacks of all that, the other one shows as gone.
 const LACKING = [['ConStatement', 0, 'ConStatement'], ['ProStatement', 0, 'ProStatement'], ['VoteVariation', 1, 'variation'], ['VotesAllowed', 1, 'votes']];
 for (const [name, at, role] of LACKING) {
-    const answers = new BallotAnswers([report(), report((election) => { delete election.Contest[at][name]; })]);
-    equal(`without ${name}: the ballots differ`, answers.seen().differing, 1);
+    const answers = new BallotAnswers([report(), report((election) => { delete election.Contest[at][name]; })], differing);
+    equal(`without ${name}: the ballots differ`, answers.seen(), { all: 1, differing: 1, same: 0, alike: 0 });
     const line = answers.ballot({ key }).items[at].lines.find((some) => some.role === role);
     equal(`without ${name}: it is marked`, line.texts.flatMap(({ pieces }) => pieces.map(({ mark }) => mark)), ['removed']);
 }
@@ -124,12 +125,19 @@ const ON_BALLOTS = {
     candidate: ['BallotName', 'PartyId', 'IsIncumbent'], person: ['Profession'], party: ['Name'], header: ['Name'], style: ['OrderedContent', 'PartyIds'], election: ['Name', 'StartDate'],
 };
 const NOT_ON_BALLOTS = { contest: ['NumberElected', 'OfficeIds'], candidate: ['CampaignSlogan'], person: ['FullName'], office: ['Name'], party: ['Color'] };
-const leftOut = (part, member, word, isShown, isHidden = false) => leftOutOf([{ part, how: 'member', member, word, isCaused: false, isHidden }], isShown).length;
+const leftOut = (part, member, word, isShown, { isHidden = false, isCaused = false, alike = 0 } = {}) => leftOutOf(
+    [{ part, how: 'member', member, word, isCaused, isHidden }], { differing: isShown ? 1 : 0, alike }).length;
 for (const [table, told] of [[ON_BALLOTS, 0], [NOT_ON_BALLOTS, 1]]) {
     for (const [part, member] of Object.entries(table).flatMap(([name, members]) => members.map((one) => [name, one]))) {
         equal(`left out of ballots that differ: ${part} ${member}`, [leftOut(part, member, 'seen', true), leftOut(part, member, 'in doubt', true)], [told, told]);
-        equal(`left out of an object that no ballot shows: ${part} ${member}`, leftOut(part, member, 'seen', true, true), 1);
-        equal(`left out of ballots that are the same: ${part} ${member}`, [leftOut(part, member, 'seen', false), leftOut(part, member, 'unseen', false)], [1, 0]);
+        equal(`left out of an object that no ballot shows: ${part} ${member}`, leftOut(part, member, 'seen', true, { isHidden: true }), 1);
+        equal(`left out of ballots that are the same: ${part} ${member}`, [leftOut(part, member, 'seen', false), leftOut(part, member, 'unseen', false),
+            leftOut(part, member, 'in doubt', false, { isCaused: true })], [1, 0, 1]);
+        equal(`left out of ballots that look the same: ${part} ${member}`, [leftOut(part, member, 'seen', true, { alike: 1 }),
+            leftOut(part, member, 'in doubt', true, { alike: 1, isCaused: true })], [1, told]);
     }
 }
+const unseen = unseenOf([['unseen', 'IsDistricted'], ['seen', 'Name'], ['unseen', 'IsMailOnly'], ['unseen', 'IsMailOnly']]
+    .map(([word, member]) => ({ part: 'unit', how: 'member', member, word })));
+equal('what no ballot shows', unseen.map(({ member, count }) => [member, count]), [['IsMailOnly', 2], ['IsDistricted', 1]]);
 counts();

@@ -154,6 +154,8 @@ equal('a code', codeOf(`0123456789abcdef0123${'0'.repeat(44)}`), '04HM ASW9 NF6Y
 
 // Cells that a spreadsheet would take for formulas, and cells with commas and quotes.
 equal('CSV', csvOf([['=1+1', 'a,b', 'say "x"', 5, '-2']]), '\'=1+1,"a,b","say ""x""",5,\'-2\r\n');
+equal('CSV: formulas behind white space and in full width', csvOf([['\t=1', '\n=1', '\r=1', '\uff1d1', '\uff0b1', '\uff0d1', '\uff201', '+1', '@a', 'a=1']]),
+    '\'\t=1,"\'\n=1","\'\r=1",\'\uff1d1,\'\uff0b1,\'\uff0d1,\'\uff201,\'+1,\'@a,a=1\r\n');
 
 // Faults by their kinds.
 const kinds = kindsOf([{ place: ['a', 'VoteCounts'], reason: 5 }, { place: [], reason: 2, name: 'Name' },
@@ -217,10 +219,16 @@ equal('a difference that has none', [{ member: 'Name' }, { part: 'party' }, { ho
 
 // A ballot of two files, in which a name is changed and two selections have changed places.
 const moved = county.replace('Ingrith', 'Ingrid').replace('"cs1-2","cs1-3","cs1-4"', '"cs1-3","cs1-2","cs1-4"');
-const ballots = new BallotAnswers([meaningOf(county), meaningOf(moved)]);
+const ballots = new BallotAnswers([meaningOf(county), meaningOf(moved)],
+    erd.toldOfBallots('erd_ballot_differences', [county, moved].map((text) => encoder.encode(text)), {}));
 equal('the languages of the ballots', ballots.languages(), ['en-US', 'es-US']);
 equal('how many ballots differ', ballots.styles({ words: '', group: null, from: 0, count: 0 }).counts, { all: 4, differing: 3, same: 1 });
 equal('the ballots of a precinct', ballots.styles({ words: 'birch', group: 'all', from: 0, count: 9 }).entries.map(({ code }) => code), ['local-level BS-1']);
+// Each of the three has the contest of the candidate, and one has the contest whose selections have changed places.
+const below = ballots.styles({ words: '', group: 'differing', from: 0, count: 9 }).entries
+    .map((entry) => entry.below.map((text) => text.replace(/(selection) .*/, '$1')));
+const school = '  changed contest ["local-level","","C-SCHOOL"]';
+equal('what differs on these ballots', below, [['  changed contest ["local-level","","C-EXEC"]', '    moved selection', school], [school], [school]]);
 const selections = ballots.ballot({ key: ballots.keys[0] }).items.flatMap((item) => item.selections ?? []);
 equal('moved selections', selections.filter(({ mark }) => mark === 'moved').map(({ from, to }) => [from, to]), [[1, 2]]);
 equal('reworded selections', selections.flatMap(({ lines: some }) => some.flatMap(({ texts }) => texts.flatMap(({ pieces }) => pieces)))

@@ -109,16 +109,20 @@ def seen(session):
 
     cases = {
         answers.say('seen.differ', differing=1, all=1): lambda report: report['Election'][0]['Contest'][0].update(Name='Mayor'),
-        answers.say('seen.shownSame', count=1): lambda report: report['GpUnit'][0].update(ContactInformation={'Phone': ['1']}),
-        answers.say('seen.unseen'): lambda report: report['GpUnit'][0].update(IsDistricted=True),
+        answers.say('seen.shownSame'): lambda report: report['GpUnit'][0].update(IsDistricted=True),
     }
     for heading, change in cases.items():
         session.judged(SMALL, changed(change))
         session.equal('what a voter sees: ' + heading, session.text('.seen h3'), heading)
         session.equal('the box of: ' + heading, session.browser.script("return document.querySelector('.seen').className"),
                       'seen quiet' if heading.startswith('No') else 'seen touched')
+    session.judged(SMALL, changed(lambda report: report['Election'][0].update(Name='Another name')))
+    session.equal('what a voter sees: the name of the election', session.text('.seen h3'), answers.say('seen.shownSame'))
+    session.equal('the box of the name of the election', session.browser.script("return document.querySelector('.seen').className"), 'seen touched')
     session.judged(SMALL, changed(lambda report: report['Person'][0]['ExternalIdentifier'][0].update(Value='new')))
-    session.equal('what a voter sees: another identifier', session.text('.seen h3'), answers.say('seen.shownSame', count=1))
+    # A candidate is another person's then, which some ballots show, and those of the page do not.
+    session.equal('what a voter sees: another person', [session.text('.seen h3'), session.text('.seen h3 + p')],
+                  [answers.say('seen.differ', differing=1, all=1), answers.say('seen.alike', count=1)])
 
 
 def look_alikes(session):
@@ -172,7 +176,7 @@ def renamed(session):
     session.judged(COUNTY, session.file('renamed.json', text))
     session.equal('another identifier: the pair', session.texts('.pairs li'),
                   ['Candidate “Ingrith Sablewood”: local-level K-12 in the first file, local-level K-99 in the second'])
-    session.equal('another identifier: what a voter sees', session.text('.seen h3'), answers.say('seen.unseen'))
+    session.equal('another identifier: what a voter sees', session.text('.seen h3 + p'), answers.say('seen.alike', count=3))
     session.equal('another identifier: nothing else differs', session.texts('.others > .differences > li'), [])
     session.browser.script("document.querySelector('.pairs details').open = true")
     session.becomes('another identifier: what follows', lambda: len(session.texts('.pairs .differences > li')) > 2, True)

@@ -5,6 +5,7 @@ import { pointerOf } from '../../bindings/js/lib/words.mjs';
 import { repeatedNames } from '../../bindings/js/lib/repeated.mjs';
 import { aligned } from '../../web/scripts/alignment.mjs';
 import { BallotAnswers } from '../../web/scripts/ballot_answers.mjs';
+import { BallotFindings } from '../../web/scripts/ballot_findings.mjs';
 import { renamed, talliesOf } from '../../web/scripts/causes.mjs';
 import { boundedPointer, boundedText } from '../../web/scripts/bounded.mjs';
 import { Client } from '../../web/scripts/client.mjs';
@@ -172,7 +173,9 @@ const right = report((_made, election) => {
     election.BallotStyle[0].OrderedContent[0].OrderedContent[0].OrderedContestSelectionIds = ['cs1', 'cs3'];
     election.BallotStyle[1].ExternalIdentifier = identified('S3');
 });
-const two = new BallotAnswers([meaning, right]);
+// What the proved code answers of the styles that differ: the positions in the two files, null where a file has none.
+const differing = (code, left = 0, right = 0, below = '') => ({ key: ['local-level', '', code], left, right, below });
+const two = new BallotAnswers([meaning, right], [differing('S1'), differing('S2', 1, null), differing('S3', null, 1)]);
 const marksOf = (answers, group = 'all') => answers.styles({ words: '', group, from: 0, count: 9 }).entries.map(({ code, mark }) => [code, mark]);
 equal('which ballots differ', marksOf(two), [['local-level S1', 'changed'], ['local-level S2', 'removed'], ['local-level S3', 'added']]);
 const changedTitle = ['title', 'enFor Governor', 'es<removed Para gobernador>'];
@@ -187,12 +190,28 @@ for (const [name, change] of Object.entries(CHANGES)) {
     const answers = new BallotAnswers([report((_made, election) => { election.BallotStyle.shift(); }), report((made, election) => {
         election.BallotStyle.shift();
         change(made, election);
-    })]);
+    })], [differing('S2')]);
     equal(`${name} is seen`, marksOf(answers), [['local-level S2', 'changed']]);
     equal(`${name}: none is the same`, [marksOf(answers, 'same'), marksOf(answers, 'differing')], [[], [['local-level S2', 'changed']]]);
 }
 const subtitled = report((_made, election) => { election.Contest[0].BallotSubTitle = 'Full term'; });
 equal('a line that is gone', itemsOf(new BallotAnswers([subtitled, meaning]), 'S2')[0][1].at(-1), ['BallotSubTitle', '<removed Full term>']);
+// A ballot that differs in what the page does not show, or in an identifier alone, differs all the same. It is said that it looks the same.
+const abbreviated = report((made) => { made.Party[1].Abbreviation = 'G'; });
+const hidden = new BallotAnswers([meaning, abbreviated], [differing('S1', 0, 0, '  changed contest ["local-level","","C1"]\n')]);
+const belowOf = (answers) => answers.styles({ words: '', group: 'all', from: 0, count: 9 }).entries.map(({ below, allBelow }) => [below, allBelow]);
+equal('what differs on a ballot', belowOf(hidden), [[['  changed contest ["local-level","","C1"]'], 1], [[], 0]]);
+const lengthy = new BallotAnswers([meaning, meaning], [differing('S1', 0, 0, `  ${'x'.repeat(400)}\n`.repeat(31))]);
+equal('much that differs on a ballot', belowOf(lengthy).map(([below, all]) => [below.length, below.every((line) => line.length <= 301), all]),
+    [[30, true, 31], [0, true, 0]]);
+equal('a ballot that looks the same', [marksOf(hidden), marksOf(hidden, 'differing')],
+    [[['local-level S1', 'alike'], ['local-level S2', '']], [['local-level S1', 'alike']]]);
+equal('how many look the same', hidden.seen(), { all: 2, differing: 1, same: 1, alike: 1 });
+equal('what looks the same has no sentence', new BallotFindings(hidden).told(), { count: 0, all: 2, isPart: false });
+const otherCode = report((_made, election) => { election.BallotStyle[1].ExternalIdentifier = identified('S9'); });
+const recoded = new BallotAnswers([meaning, otherCode], [differing('S2', 1, null), differing('S9', null, 1)]);
+equal('a style under another code', [marksOf(recoded), recoded.seen()],
+    [[['local-level S1', ''], ['local-level S9', 'renamed']], { all: 2, differing: 1, same: 1, alike: 1 }]);
 equal('the same ballots', marksOf(new BallotAnswers([meaning, report()]), 'same'), [['local-level S1', ''], ['local-level S2', '']]);
 equal('a ballot with all the words', one.styles({ words: 'east WEST', group: 'all', from: 0, count: 9 }).entries.map(({ code }) => code), ['local-level S1']);
 

@@ -28,6 +28,11 @@ LETTERS = '0123456789ABCDEFGHJKMNPQRSTVWXYZ'
 # What a voter sees: the words of the profile, the class of each part in the small ballot, and the list that its objects are in.
 SHOWN = {'election': ('Name', 'StartDate'), 'unit': ('Name',), 'party': ('Name',), 'header': ('Name',), 'candidate': ('BallotName', 'PartyId'),
          'contest': ('Name', 'VotesAllowed', 'ContestSelection'), 'style': ('GpUnitIds', 'PartyIds', 'OrderedContent')}
+# The members of which the proved code compares what ballots print. What is carried is compared too. The county of the small ballot is on no ballot.
+PRINTED = {'party': ('Name', 'Abbreviation', 'Slogan'), 'header': ('Name',),
+           'person': ('FullName', 'FirstName', 'LastName', 'Title', 'Profession', 'PartyId'),
+           'candidate': ('BallotName', 'PartyId', 'CampaignSlogan', 'IsIncumbent', 'IsTopTicket', 'PersonId', 'PreElectionStatus'),
+           'contest': ('Name', 'VotesAllowed', 'VoteVariation', 'ContestSelection'), 'style': ('GpUnitIds', 'PartyIds', 'OrderedContent')}
 CLASSES = {'report': 'ElectionReport', 'unit': 'ReportingUnit', 'party': 'Party', 'person': 'Person', 'office': 'Office', 'header': 'Header',
            'election': 'Election', 'candidate': 'Candidate', 'contest': 'CandidateContest', 'style': 'BallotStyle'}
 LISTS = {'unit': ('ElectionReport', 'GpUnit'), 'party': ('ElectionReport', 'Party'), 'person': ('ElectionReport', 'Person'),
@@ -221,22 +226,40 @@ class Result:
         return left ^ right
 
     def on_ballots(self):
-        """The heading of what differs on the ballots, which stands there if they differ."""
-        is_there = self.seen()[0].startswith(say('seen.differ', differing=0, all=0).split(':')[0])
-        return [self.session.text('#on-ballots') or 'what differs on the ballots'] if is_there else []
+        """The heading of what differs on the ballots, which stands there if what they show differs."""
+        return [self.session.text('#on-ballots') or 'what differs on the ballots'] if self.look_different() else []
 
     def seen(self):
-        """The box on what a voter sees: whether the ballots differ, and what they leave out, by the table of the profile."""
-        words = [self.word(entry) for entry in self.entries]
-        differing = self.row.get('ballots', [int(any(entry['how'] == 'member' and self.is_shown(entry) for entry in self.entries)), 1])
-        left_out = {}
-        for entry, word in zip(self.entries, words):
-            if word != 'unseen' and not (differing[0] and self.is_shown(entry)):
-                kind = (entry['part'], entry['how'] == 'member', entry.get('member'))
-                left_out[kind] = left_out.get(kind, 0) + 1
-        heading = say('seen.differ', differing=differing[0], all=differing[1]) if differing[0] else \
-            say('seen.unseen') if not left_out else say('seen.shownSame', count=differing[1]) if differing[1] else say('seen.noBallots')
-        return [heading, *(self.left_out_line(*kind, count) for kind, count in left_out.items())]
+        """The box on what a voter sees: whether the ballots differ, what they leave out by the table of the profile, and what no ballot shows."""
+        differing, count = self.differing()
+        heading = say('seen.differ', differing=differing, all=count) if differing else say('seen.shownSame' if count else 'seen.noBallots')
+        return [heading, *self.left_out(), *self.kinds([entry for entry in self.entries if self.word(entry) == 'unseen'])]
+
+    def left_out(self):
+        """What a voter may see, and the ballots leave out."""
+        is_told = self.look_different()
+        return self.kinds([entry for entry in self.entries if self.word(entry) != 'unseen' and not (is_told and self.is_shown(entry))])
+
+    def kinds(self, entries):
+        """The line of each kind of differences."""
+        counts = {}
+        for entry in entries:
+            kind = (entry['part'], entry['how'] == 'member', entry.get('member'))
+            counts[kind] = counts.get(kind, 0) + 1
+        return [self.left_out_line(*kind, count) for kind, count in counts.items()]
+
+    def differing(self):
+        """How many ballots differ, and how many there are."""
+        return self.row.get('ballots', [int(any(entry['how'] == 'member' and self.is_printed(entry) for entry in self.entries)), 1])
+
+    def look_different(self):
+        """Whether ballots differ in what the page shows of them."""
+        return self.differing()[0] > 0 and any(entry['how'] == 'member' and self.is_shown(entry) for entry in self.entries)
+
+    @staticmethod
+    def is_printed(entry):
+        """Whether a difference in this member makes the ballots differ."""
+        return entry['part'] in PRINTED and (entry['member'] in PRINTED[entry['part']] or entry['member'] not in SEEN[CLASSES[entry['part']]])
 
     @staticmethod
     def left_out_line(part, is_member, member, count):
@@ -372,8 +395,10 @@ class Result:
             headings = [say('difference.all', count=len(self.entries))]
             ordered = sorted(self.entries, key=lambda entry: ('seen', 'in doubt', 'unseen').index(self.word(entry))) if self.has_values else self.entries
             entries = [self.sentence_on(entry) + ''.join(self.inside(entry)[1:] or values_filed(entry)) for entry in ordered]
-        left_out = [say('seen.leftOut')] if self.is_listed and self.has_values and len(self.seen()) > 1 else []
-        paragraphs = [*self.notices(), *left_out, say('record.proved'), say('record.notProved'), *self.signed()]
+        is_told = self.is_listed and self.has_values
+        alike = [say('seen.alike', count=self.differing()[0])] if is_told and self.differing()[0] > 0 and not self.look_different() else []
+        left_out = [say('seen.leftOut')] if is_told and self.left_out() else []
+        paragraphs = [*self.notices(), *alike, *left_out, say('record.proved'), say('record.notProved'), *self.signed()]
         return {'headings': headings, 'entries': entries, 'paragraphs': paragraphs}
 
     def signed(self):

@@ -23,20 +23,22 @@ def other_codes(one, election):
         thing['ExternalIdentifier'] = identified('X' + thing['ExternalIdentifier'][0]['Value'])
 
 
-SAME = ('seen.shownSame', {'count': 2})
+SAME = ('seen.shownSame', {})
 # Of each change the sentence, the ballots that differ, and what is named as left out.
 CASES = {
     'a text inside an identifier': (lambda one, election: one['Office'][0]['ExternalIdentifier'][0].update(Label='x'), SAME, 0, ['Offices']),
     'a partisan office': (lambda one, election: one['Office'][0].update(IsPartisan=True), SAME, 0, ['IsPartisan']),
     'the party of a person': (lambda one, election: one['Person'][0].update(PartyId='pa'), SAME, 0, ['PartyId']),
     'the phone number of a polling place': (
-        lambda one, election: one['GpUnit'][0].update(ContactInformation={'Phone': ['1']}), SAME, 0, ['ContactInformation']),
-    'the numbers of a vendor': (other_codes, ('seen.unseen', {}), 0, []),
+        lambda one, election: one['GpUnit'][0].update(ContactInformation={'Phone': ['1']}),
+        ('seen.differ', {'differing': 1, 'all': 2}), 1, ['ContactInformation']),
+    'the numbers of a vendor': (other_codes, ('seen.differ', {'differing': 2, 'all': 2}), 2, []),
     'a name': (lambda one, election: election['Candidate'][0].update(BallotName='Anne'), ('seen.differ', {'differing': 1, 'all': 2}), 1, []),
     'a lost line': (lambda one, election: election['BallotStyle'][1].update(OrderedContent=[listed('M: Yes')]),
                     ('seen.differ', {'differing': 1, 'all': 2}), 1, []),
     'rotation': (lambda one, election: election['Contest'][0].update(HasRotation=True), ('seen.differ', {'differing': 1, 'all': 2}), 1, []),
-    'a district': (lambda one, election: one['GpUnit'][0].update(IsDistricted=True), ('seen.unseen', {}), 0, []),
+    'a district': (lambda one, election: one['GpUnit'][0].update(IsDistricted=True), SAME, 0, []),
+    'the name of the election': (lambda one, election: election.update(Name='Another'), SAME, 0, ['Name']),
 }
 
 
@@ -81,7 +83,7 @@ def partly(session):
     found = re.search(r'lists the first ([\d,]+)', session.text('.others'))
     listed = int(found[1].replace(',', '')) if found else 0
     part = answers.say('seen.part', listed=listed, all=MANY + 1)
-    session.equal('voter: of many differences', session.text('.seen h3'), answers.say('seen.shownSame', count=2))
+    session.equal('voter: of many differences', session.text('.seen h3'), answers.say('seen.shownSame'))
     session.has('voter: of which the page has looked at the first', session.text('.seen'), part)
     session.has('voter: of many differences, the record', session.text('.filed'), part)
     session.equal('voter: of many differences, their order in the record', session.text('[data-filed] > p'), answers.say('record.orderPart', listed=listed))

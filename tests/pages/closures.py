@@ -44,7 +44,7 @@ PROMISES = [
     ('Pieces of lists (`check_data_piece`, `check_text_piece` and their neighbours)', [
         'erd_canon/Pieces.IsPieceText', 'erd_canon/Pieces.IsCheckPiece', 'erd_canon/Pieces.IsFormPiece', 'erd_canon/Pieces.IsComparePiece',
         'erd_canon/Pieces.IsListPiece', 'erd_canon/Pieces.IsCheckLines', 'erd_canon/Pieces.IsFormLines', 'erd_canon/Pieces.IsCompareLines',
-        'erd_canon/Pieces.IsListLines']),
+        'erd_canon/Pieces.IsListLines', 'erd_canon/ValuedAnswers.IsValuesPiece']),
     ('The command line as data (`command_line_data`)', ['erd_canon/LineAnswers.IsLineData']),
     ('What the C library tells', ['erd_c/Told.IsCall', 'erd_c/Told.IsWrong', 'erd_c/Told.HasCanonicalText', 'erd_canon/Run.IsChecked',
                                   'erd_canon/Run.IsCompared', 'erd_c/Lines.IsLineCall', 'erd_c/Told.IsPieceCall']),

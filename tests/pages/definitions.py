@@ -1,6 +1,6 @@
 """Holds docs/DEFINITIONS.md against the definitions in `specs/`, and public contracts against `specs/code/`. No two definitions
-have one name. Lines of comments have at most 130 characters, and lines of the crates in `SHORT` at most 160, but for an attribute,
-which `rt fmt` writes into one line.
+have one name. Lines of comments have at most 130 characters, and all others at most 160, but for an attribute, which `rt fmt`
+writes into one line.
 
 The lines of the page are made from the comments that stand before the definitions, and the order of the files is that of
 each `Lib.antt`. A line has the first sentence of a comment. What a comment ends with in brackets is its source: the source
@@ -27,8 +27,6 @@ from closures import under_promises, used_elsewhere  # noqa: E402
 
 PAGE = ROOT / 'docs' / 'DEFINITIONS.md'
 CRATES = ['erd_tables', 'erd_index', 'erd_check', 'erd_prepare', 'erd_text', 'erd_meaning', 'erd_normal', 'erd_shown', 'erd_compare', 'erd_canon', 'erd_program', 'erd_c']
-# The crates whose lines have at most 160 characters.
-SHORT = ['erd_tables', 'erd_index', 'erd_check', 'erd_prepare', 'erd_text', 'erd_meaning', 'erd_normal', 'erd_compare']
 # Words of the table in docs/TRUST.md, with the crates whose files, functions, types and definitions may be named by them.
 KNOWING = {
     'position': ['erd_index', 'erd_meaning', 'erd_normal', 'erd_compare'],
@@ -44,9 +42,9 @@ KNOWING = {
 SECOND = {('position', 'erd_check'), ('part', 'erd_index'), ('part', 'erd_prepare'), ('part', 'erd_canon'), ('part', 'erd_program')}
 
 # The words of a sentence that stands on the page as it is.
-MOST_WORDS = 13
+MOST_WORDS = 12
 # A longer sentence than the second is cut at a comma behind so many words.
-LEAST_AT_COMMA, MOST_AT_COMMA = 5, 15
+LEAST_AT_COMMA, MOST_AT_COMMA = 5, 14
 
 # Where the definitions of a file come from, if their comments do not say: the file, or one of its definitions.
 PROFILE = 'profile'
@@ -301,13 +299,13 @@ def misused_words():
 
 
 def long_lines():
-    """Where a line of comment in the crates is longer than 130 characters, or another line in those of `SHORT` than 160."""
+    """Where a line of comment in the crates is longer than 130 characters, or another line than 160 that is more than one text."""
     for path in sorted(path for ending in ('rt', 'antt') for path in ROOT.glob(f'crates/**/*.{ending}') if 'out' not in path.parts):
         place = path.relative_to(ROOT)
         for number, line in enumerate(path.read_text(encoding='utf-8').split('\n'), 1):
             is_comment = re.match(r'\s*(?://|--)', line)
-            is_held = place.parts[1] in SHORT and not line.lstrip().startswith('#[')
-            if len(line) > 130 and is_comment or len(line) > 160 and is_held:
+            is_whole = line.lstrip().startswith('#[') or re.fullmatch(r'\s*(?:codes )?"[^"]*"', line)
+            if len(line) > 130 and is_comment or len(line) > 160 and not is_whole:
                 yield f'{place}:{number}'
 
 

@@ -1,7 +1,8 @@
 """Holds the examples in doc comments against the crate `uses`: each public call of the library has one, and its lines stand
 one after another in a source of `uses`, where they are run. Only white space may differ, and `assert_eq!` of two values may stand in
-`uses` as `assert!` that they are equal: the first one prints both, which costs more to prove than the rest of an example. One line a
-case that fails, and at the end the counts.
+`uses` as `assert!` that they are equal: the first one prints both, which costs more to prove than the rest of an example. What an
+example only asserts may stand in a condition of `uses`, joined by `&&`: that costs a third of an assertion. One line a case that fails,
+and at the end the counts.
 
 A public call is a function or a method of a type or trait that the root of a crate names. Laws take no arguments and run
 nothing, and a `Log` is seen by contracts alone, so these have no example.
@@ -34,6 +35,18 @@ def as_assert(text):
             return f'assert!(rt;{text[:found.start()]}=={text[found.end():]}'
         depth += (found[0] in '([{') - (found[0] in ')]}')
     return f'assert_eq!(rt;{text}'
+
+
+def is_in(example, source):
+    """Whether an example stands in a source of `uses`, both without white space: its lines, or in conditions what it asserts at its end."""
+    end = re.search(r'(assert!\(rt;((?!assert!).)*\);)*$', example).group()
+    conditions = re.findall(r'assert!\(rt;(.*?)\);(?=assert!|$)', end)
+    return example in source or example.removesuffix(end) in source and bool(end) and all(is_joined(it, source) for it in conditions)
+
+
+def is_joined(condition, source):
+    """Whether a condition stands whole in a source: what is before it and behind it ends a condition too."""
+    return re.search(r'(?:[{;]|&&)' + re.escape(condition) + r'(?:\}|&&|\);)', source) is not None
 
 
 def names_at_root(crate):
@@ -81,7 +94,7 @@ def cases():
         for name, doc in calls_of(crate):
             examples = re.findall(r'^```\n(.*?)^```$', doc, re.M | re.S)
             yield f'{name} has an example', True, bool(examples)
-            missing = [example for example in examples if not any(bare(example) in source for source in sources)]
+            missing = [example for example in examples if not any(is_in(bare(example), source) for source in sources)]
             yield f'{name}: what is not in the crate uses', [], missing
 
 

@@ -151,6 +151,22 @@ def lines_of_differences(folder, answer):
     return texts_of_data.differences_text(answer), run(f'python3 {program} differences whole.json data.json', folder)
 
 
+def values_listed(folder, answer):
+    """The entries with values for two reports in which the member has these values; or the records that the left of two reports alone
+    has, where the right one has another identifier in place of that of the record."""
+    left, right = (json.loads(read('examples/small-ballot.json')) for _ in range(2))
+    if 'values' in answer:
+        for report, value in zip((left, right), (answer['values']['left'], answer['values']['right'])):
+            with_value(report['Election'][0]['Contest'], answer['key'][2])[answer['member']] = value
+    else:
+        name = answer['members']['ExternalIdentifier'][0]['Value']
+        with_value(right['Election'][0]['Candidate'], name)['ExternalIdentifier'][0]['Value'] = 'another'
+    written(folder, 'left.json', left)
+    written(folder, 'right.json', right)
+    listed = json.loads(run('erd differences --json left.json right.json', folder))
+    return listed if 'values' in answer else [entry['values']['left'] for entry in listed if entry['how'] == 'only left']
+
+
 def line_of_data(folder, answer):
     """What the program writes for reports that are made for the answer."""
     base = json.loads(read('examples/small-ballot.json' if 'key' in answer else BASE))
@@ -180,9 +196,10 @@ def told_of_number(folder, answer):
 
 
 def members_of_ballots(folder, answer):
-    """The members of what a page shows of ballots, and of what the program tells of a report, or of two. No command tells of one ballot."""
+    """The members of what a page shows of ballots, and of what the program tells of a report, or of two. No command tells of one ballot,
+    nor of rows of two."""
     files = 'examples/small-ballot.json' + ('' if 'at' in answer else ' examples/one-unit.json')
-    return sorted(answer), sorted(answer if 'depth' in answer else json.loads(run(f'erd ballots --json {files}', folder))[0])
+    return sorted(answer), sorted(answer if {'depth', 'how'} & set(answer) else json.loads(run(f'erd ballots --json {files}', folder))[0])
 
 
 def examples_of_data(folder):
@@ -208,10 +225,9 @@ def examples_of_data(folder):
             if isinstance(answer, list) and 'how' in answer[0]:
                 yield f'{page}: {text}', *lines_of_differences(folder, answer)
                 continue
-            if 'values' in answer:
-                # no form but the library has these: beside them, the entry is that of the lists
-                values = answer.pop('values')
-                yield f'{page}: {text} has what both reports have', (['left', 'right'], False), (list(values), values['left'] == values['right'])
+            if {'class', 'values'} & set(first):
+                yield f'{page}: {text}', [answer], values_listed(folder, answer)
+                continue
             answer = [answer] if 'place' in answer else answer
             lines = texts_of_data.check_text(answer) if isinstance(answer, list) else texts_of_data.compare_text(answer)
             yield f'{page}: {text}', lines, line_of_data(folder, answer)

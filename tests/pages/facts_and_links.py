@@ -270,7 +270,7 @@ def compare_lengths():
 # The most words of each page for readers, and of all pages in English.
 MOST_WORDS = {
     'README.md': 800, 'docs/GUIDE.md': 3500, 'docs/FIXES.md': 4500, 'docs/VENDORS.md': 700, 'docs/LIMITS.md': 2000, 'docs/INSTALL.md': 1200,
-    'docs/PROFILE.md': 6000, 'docs/API.md': 4000, 'docs/TRUST.md': 4500, 'docs/DEFINITIONS.md': 9100, 'CONTRIBUTING.md': 5000,
+    'docs/PROFILE.md': 6000, 'docs/API.md': 4000, 'docs/TRUST.md': 4500, 'docs/DEFINITIONS.md': 9300, 'CONTRIBUTING.md': 5000,
     'docs/DECISIONS.md': 3500, 'docs/MEASUREMENTS.md': 1200,
 }
 MOST_IN_ALL = 45000

@@ -17,6 +17,8 @@ from facts_and_links import text_of_reasons  # noqa: E402
 from member_table import families_of_page, table_of_page  # noqa: E402
 
 MOST_WORDS = 110
+# Where `rt fmt` breaks a line.
+WIDTH_OF_CODE = 100
 
 
 def quoted(members, joint):
@@ -98,7 +100,43 @@ def in_brackets(steps):
     return '[' + ', '.join(map(in_quotes, steps)) + ']'
 
 
+def variants_of_reasons():
+    """The variants of the reasons by their numbers, each as the definitions write it and as the code does."""
+    text = (ROOT / 'crates' / 'erd_tables' / 'specs' / 'Faults.antt').read_text(encoding='utf-8')
+    found = re.findall(r'^reason_number \(?reason\.(\w+)( name)?\)? = (\d+)$', text, re.M)
+    return {int(number): (f'(reason.{variant} name)' if name else f'reason.{variant}', f'Reason::{variant}(_)' if name else f'Reason::{variant}')
+            for variant, name, number in found}
+
+
+def fronts_of_remedies():
+    """What the line of the program about a reason begins with, before what to ask the vendor for."""
+    words = text_of_reasons()
+    for number, (steps, _) in remedies().items():
+        ways = f'steps that may fix it: {", ".join(steps)}; otherwise ask the vendor: ' if steps else 'no step fixes it; ask the vendor: '
+        yield number, f'reason {number} ({words[number].split(" `")[0]}): {ways}'
+
+
+def letters_of_remedies():
+    return ((number, letter) for number, (_, letter) in remedies().items())
+
+
+def in_definition(name, texts):
+    variants = variants_of_reasons()
+    for number, text in texts:
+        yield from (f'{name} {variants[number][0]} =', f'    codes "{text}"')
+    yield ''
+
+
+def in_code(texts):
+    variants = variants_of_reasons()
+    for number, text in texts:
+        line = f'        {variants[number][1]} => "{text}",'
+        yield from [line] if len(line) <= WIDTH_OF_CODE else (f'        {variants[number][1]} => {{', f'            "{text}"', '        }')
+
+
 # The file, the lines that begin and end its table, and the lines of the table.
+LINES_OF_REASONS = '-- The lines about the reasons of these faults but for those of some numbers, one for each, in the order of their first faults.'
+REMEDY_TABLES = {'definition': 'crates/erd_canon/specs/Remedies.antt', 'code': 'crates/erd_canon/src/engines/remedies.rt'}
 FROM_XML = {'python': 'bindings/python/src/erd/from_xml/table.py', 'javascript': 'web/scripts/from_xml/table.mjs'}
 TABLES = (
     ('bindings/python/src/erd/results.py', 'WORDS = {', '}', (f"    {number}: '{words}'," for number, words in text_of_reasons().items())),
@@ -111,6 +149,10 @@ TABLES = (
     (FROM_XML['javascript'], 'const RENAMED = {', '};', rows_of_version_1('names', "    %s: '%s',")),
     ('bindings/python/src/erd/prepare/step_words.py', 'REMEDIES: Dict[int, Tuple[List[str], str]] = {', '}', rows_of_remedies('(', ')', in_brackets)),
     ('bindings/js/lib/prepare/step_words.mjs', 'export const REMEDIES = {', '};', rows_of_remedies('[', ']', in_brackets)),
+    (REMEDY_TABLES['definition'], 'abbrev pub remedy_front : Reason → List ℕ', '-- What to ask the vendor for.', in_definition('remedy_front', fronts_of_remedies())),
+    (REMEDY_TABLES['definition'], 'abbrev pub remedy_letter : Reason → List ℕ', LINES_OF_REASONS, in_definition('remedy_letter', letters_of_remedies())),
+    (REMEDY_TABLES['code'], '        // The table of the steps is written by tests/pages/tables.py.', '    }', in_code(fronts_of_remedies())),
+    (REMEDY_TABLES['code'], '        // The table of the letters is written by tests/pages/tables.py.', '    }', in_code(letters_of_remedies())),
     *options.TABLES,
 )
 

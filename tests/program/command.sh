@@ -158,9 +158,11 @@ expect 'usage with standard error closed' 3 "$work/empty" ''
 why=''
 cmp -s "$one" crates/erd/stdin || why+='crates/erd/stdin differs; '
 cmp -s "$canonical" crates/erd/stdout || why+='crates/erd/stdout differs; '
+# The parts of a text that is broken by `concat!` are one text.
+sed -z 's/",\n *"//g' crates/erd_rows/src/tests/vectors.rt > "$work/vectors"
 for file in one-unit.json one-unit.canonical.json small-ballot.json small-ballot.canonical.json; do
     sed 's/\\/\\\\/g; s/"/\\"/g' "examples/$file" > "$work/literal"
-    grep -qFf "$work/literal" crates/erd_rows/src/tests/vectors.rt || why+="$file is not in erd_rows; "
+    grep -qFf "$work/literal" "$work/vectors" || why+="$file is not in erd_rows; "
 done
 said 'examples are the vectors of the tests' "$why"
 

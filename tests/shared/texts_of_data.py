@@ -42,6 +42,7 @@ def difference_line(difference):
     members = {"part", "key", "how"} | ({"member"} if how == "member" else set())
     if difference["part"] == "contest" and difference.get("member") == "ContestSelection":
         members |= set(difference) & {"selections"}
+    members |= set(difference) & {"values"}
     assert set(difference) == members, f"a difference has the members {sorted(difference)}"
     key = "" if difference["key"] is None else " " + compact(difference["key"])
     words = how + " " + compact(difference["member"]) if how == "member" else how

@@ -1,9 +1,11 @@
-// What the worker answers on the ballots of one file or two: which styles there are, which of them differ, and one ballot.
-import { orderOfKeys } from '../../bindings/js/lib/order.mjs';
+// What the worker answers on the ballots of one file or two: which styles there are, which of them differ, and one ballot. Which of them
+// differ comes from the proved code.
+import { orderOfKeys, textOfKey } from '../../bindings/js/lib/order.mjs';
 import { mergedItem, mergedLines } from './ballot_changes.mjs';
 import { Ballots } from './ballots.mjs';
 import { orderedChanges } from './order_changes.mjs';
 import { hasWords } from './search.mjs';
+import { shortened } from './visible.mjs';
 
 const LANGUAGE_STRING = 'ElectionResults.LanguageString';
 
@@ -11,10 +13,20 @@ const LANGUAGE_STRING = 'ElectionResults.LanguageString';
 const MOST_LINES = 500;
 const CHARACTERS_OF_LINE = 500;
 
+/** The most lines of what differs on a ballot that are told, and the most characters of one. */
+const MOST_BELOW = 30;
+const LONGEST_BELOW = 300;
+
 export class BallotAnswers {
-    /** @param {import('./meaning.mjs').Meaning[]} meanings of one file, or of the left and the right one */
-    constructor(meanings) {
+    /**
+     * @param {import('./meaning.mjs').Meaning[]} meanings of one file, or of the left and the right one
+     * @param {{key: string[] | null, left: number | null, right: number | null, below: string}[]} [differing] what the proved code answers: the
+     *     ballot styles that are not the same in both files, with their positions, and the lines that say what differs
+     */
+    constructor(meanings, differing = []) {
         this.meanings = meanings;
+        this.below = new Map(differing.map(({ key, below }) => [textOfKey(key), below]));
+        this.marks = new Map(differing.map(({ key, left, right }) => [textOfKey(key), right === null ? 'removed' : left === null ? 'added' : 'changed']));
         this.sides = meanings.map((meaning) => new Ballots(meaning));
         this.numbers = new Map();
         const styles = new Map(this.sides.flatMap(({ styles: some }) => [...some]));
@@ -34,14 +46,16 @@ export class BallotAnswers {
     styles({ words, group, from, count }) {
         const fitting = words.trim() === '' ? this.heads() : this.heads().filter((head) => hasWords(this.wordsOf(head), words));
         const counts = { all: fitting.length, differing: 0, same: 0 };
-        fitting.forEach(({ mark }) => counts[isSame(mark) ? 'same' : 'differing']++);
-        const chosen = group === 'all' ? fitting : fitting.filter(({ mark }) => isSame(mark) === (group === 'same'));
-        return { counts, entries: group === null ? [] : chosen.slice(from, from + count) };
+        fitting.forEach(({ mark }) => counts[mark === '' ? 'same' : 'differing']++);
+        const chosen = group === 'all' ? fitting : fitting.filter(({ mark }) => (mark === '') === (group === 'same'));
+        const entries = group === null ? [] : chosen.slice(from, from + count);
+        return { counts, entries: entries.map((head) => ({ ...head, ...linesBelow(this.below.get(head.key) ?? '') })) };
     }
 
-    /** How many ballot styles there are, and how many of them a voter sees differ. */
+    /** How many ballot styles there are, how many of them differ, and how many of these look the same here. */
     seen() {
-        return this.styles({ words: '', group: null, from: 0, count: 0 }).counts;
+        const { counts } = this.styles({ words: '', group: null, from: 0, count: 0 });
+        return { ...counts, alike: this.heads().filter(({ mark }) => mark === 'alike' || mark === 'renamed').length };
     }
 
     // What a ballot style is found by: what it is called, the names, numbers and codes of its units, and those of the districts of its contests.
@@ -54,7 +68,8 @@ export class BallotAnswers {
         return this.keptWords.get(key);
     }
 
-    // The head of each style, with whether it differs. A style under another code that shows the same stands once.
+    // The head of each style, with whether it differs. One that differs may look the same here: other identifiers have the same words, or
+    // something differs that is not shown. A style under another code that looks the same stands once.
     heads() {
         this.keptHeads ??= this.madeHeads();
         return this.keptHeads;
@@ -63,7 +78,7 @@ export class BallotAnswers {
     madeHeads() {
         const heads = this.keys.map((key) => {
             const some = this.sides.map((side) => side.head(key));
-            return { key, ...(some.at(-1) ?? some[0]), mark: this.markOf(key, some) };
+            return { key, ...(some.at(-1) ?? some[0]), mark: this.markOf(key) };
         });
         const removed = onlyOnes(heads.filter(({ mark }) => mark === 'removed'), ({ key }) => this.fingerprint(this.sides[0], key));
         const added = onlyOnes(heads.filter(({ mark }) => mark === 'added'), ({ key }) => this.fingerprint(this.sides[1], key));
@@ -72,12 +87,9 @@ export class BallotAnswers {
         return heads.filter(({ key }) => !gone.has(key)).map((head) => (this.renamed.has(head.key) ? { ...head, mark: 'renamed' } : head));
     }
 
-    markOf(key, heads) {
-        if (heads.includes(null)) {
-            return heads[0] === null ? 'added' : 'removed';
-        }
-        const [left, right] = this.sides.map((side) => this.fingerprint(side, key));
-        return right === undefined || left === right ? '' : 'changed';
+    markOf(key) {
+        const mark = this.marks.get(key) ?? '';
+        return mark === 'changed' && this.fingerprint(this.sides[0], key) === this.fingerprint(this.sides[1], key) ? 'alike' : mark;
     }
 
     // One text for all that a ballot shows, and not for identifiers. A contest stands on many ballots, so it counts by a number.
@@ -156,9 +168,10 @@ function lengthOf(lines) {
     return lines.reduce((sum, { texts }) => sum + texts.reduce((most, { pieces }) => most + pieces.reduce((all, { text }) => all + text.length, 0), 0), 0);
 }
 
-// What a voter sees is the same, maybe under another code.
-function isSame(mark) {
-    return mark === '' || mark === 'renamed';
+// The first lines of what differs on a ballot, and how many there are.
+function linesBelow(text) {
+    const lines = text.split('\n').slice(0, -1);
+    return { below: lines.slice(0, MOST_BELOW).map((line) => shortened(line, LONGEST_BELOW)), allBelow: lines.length };
 }
 
 // The entries by their texts, where no other entry has the same one.

@@ -22,7 +22,7 @@ export class BallotFindings {
         const heads = answers.heads();
         this.all = heads.length;
         this.looked = 0;
-        for (const head of heads.filter(({ mark }) => mark !== '' && mark !== 'renamed')) {
+        for (const head of heads.filter(({ mark }) => ['changed', 'added', 'removed'].includes(mark))) {
             if (this.compared > MOST_COMPARED) {
                 this.isPart = true;
                 break;

@@ -108,7 +108,7 @@ export class BallotList {
         const ballot = await this.ballot(style.key);
         const tried = element('p', { class: 'screen' });
         tried.append(button(say('ballots.printOne'), () => attempted(tried, () => this.printer.print([style], this.lang, null)), { class: 'small' }));
-        return [ballot, tried];
+        return [...belowShown(style), ballot, tried];
     }
 
     // The first part of a ballot. What is left can be shown.
@@ -155,6 +155,13 @@ export class BallotList {
         this.printed = { words, next: next < counts[group] ? next : 0 };
         all.textContent = next < counts[group] ? say('ballots.printNext', { next: next + 1, all: counts[group] }) : this.printLabel();
     }
+}
+
+// What differs on a ballot, as the program says it.
+function belowShown({ below, allBelow }) {
+    return allBelow === 0 ? [] : [element('p', { class: 'screen' }, say('ballots.below')),
+        element('pre', { class: 'below screen' }, theirs(below.join('\n'), '\n')),
+        allBelow === below.length ? null : element('p', { class: 'screen' }, say('record.more', { count: allBelow - below.length }))];
 }
 
 // The beginning of a long text.

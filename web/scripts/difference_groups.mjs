@@ -2,7 +2,7 @@
 import { renamed, talliesOf } from './causes.mjs';
 import { compactText } from '../../bindings/js/lib/exact.mjs';
 import { rowsOfDifference } from './rows.mjs';
-import { countsOf, leftOutOf, showsOf, wordOf, WORDS } from './seen.mjs';
+import { countsOf, leftOutOf, showsOf, unseenOf, wordOf, WORDS } from './seen.mjs';
 import { insideOf } from './selection_names.mjs';
 import { shownRows } from './shown_rows.mjs';
 
@@ -62,15 +62,16 @@ export class Differences {
 
     /**
      * What is known of all differences together, and the first one.
-     * @param {{all: number, differing: number} | null} ballots how many ballot styles there are, and how many of them differ
+     * @param {{all: number, differing: number, alike: number} | null} ballots how many ballot styles there are, how many of them differ, and how
+     *     many of these look the same here; null where that is not known
      */
     told(ballots) {
         return {
             count: this.all,
             listed: this.entries.length,
             first: this.shown(this.entries[0]),
-            seen: this.meanings === null ? null : { ...countsOf(this.entries.map(({ word }) => word)), ballots,
-                leftOut: leftOutOf(this.entries, ballots.differing > 0) },
+            seen: this.meanings === null || ballots === null ? null : { ...countsOf(this.entries.map(({ word }) => word)), ballots,
+                leftOut: leftOutOf(this.entries, ballots), noBallot: unseenOf(this.entries) },
             tallies: talliesOf(this.entries),
             pairs: this.pairs,
             kinds: kindsOf(this.groups.own).map(({ entries, ...kind }) => ({ ...kind, count: entries.length })),

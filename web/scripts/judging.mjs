@@ -135,7 +135,7 @@ export class Judgement {
     /** What is known of all differences: the proved list, and what helps to read it. Null where there is no memory for the list. */
     list(_question, tell) {
         const differences = this.differencesKept(tell);
-        return differences === null ? null : differences.told(differences.meanings === null ? null : this.ballots(tell).seen());
+        return differences === null ? null : differences.told(differences.meanings === null ? null : this.unlessNoMemory(() => this.ballots(tell).seen()));
     }
 
     /** How many differences there are, and the first of them without their values, as soon as the proved code has them; null where there
@@ -179,7 +179,7 @@ export class Judgement {
 
     differencesAsked(prefer, mostDifferences) {
         const [left, right] = this.sides;
-        return this.erd.differences(left.bytes, right.bytes, { prefer, mostDifferences });
+        return this.erd.differencesWithoutValues(left.bytes, right.bytes, { prefer, mostDifferences });
     }
 
     // What a call answers; null if there is no memory for it.
@@ -224,7 +224,7 @@ export class Judgement {
         const types = this.ownTypes(question, tell);
         const copies = this.meanings(tell).map(({ report }, index) => withoutTypes(report, this.keptTypes[index]));
         tell({ stage: 'comparing' });
-        const { side, allDifferences } = this.erd.differences(...copies, { prefer: this.prefer, mostDifferences: 1 });
+        const { side, allDifferences } = this.erd.differencesWithoutValues(...copies, { prefer: this.prefer, mostDifferences: 1 });
         return { types, count: side === null ? allDifferences : null };
     }
 
@@ -236,8 +236,14 @@ export class Judgement {
 
     // What the ballots look like.
     ballots(tell) {
-        this.keptBallots ??= new BallotAnswers(this.meanings(tell));
+        this.keptBallots ??= new BallotAnswers(this.meanings(tell), this.differingBallots());
         return this.keptBallots;
+    }
+
+    // Which ballots differ, by the proved code.
+    differingBallots() {
+        const { prefer } = this;
+        return this.sides.length < 2 ? [] : this.erd.toldOfBallots('erd_ballot_differences', this.sides.map(({ bytes }) => bytes), { prefer });
     }
 
     /** What a file has, in counts. */

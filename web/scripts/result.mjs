@@ -97,9 +97,9 @@ export class Result {
         }
     }
 
-    // The ballots of all files, if all are accepted.
+    // The ballots of all files, if all are accepted, and there is memory to say which of them differ.
     showBallots() {
-        if (this.sums.every(({ canonical }) => canonical !== undefined)) {
+        if (this.sums.every(({ canonical }) => canonical !== undefined) && !this.answer.comparison?.noMemory) {
             this.put('ballots', new BallotList(this.client, { names: this.names, sums: this.sums, version: this.data.version, tell: this.tell }).section());
         }
     }

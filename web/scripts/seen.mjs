@@ -60,17 +60,26 @@ function isShownOf(part, member) {
  * What a voter may see and the ballots of the page don't show, in groups with their counts.
  * @param {{part: string, how: string, member?: string, word: string, isCaused: boolean, isHidden: boolean}[]} entries one that `isHidden` is of
  *     an object whose member no ballot shows
- * @param {boolean} isShown whether the ballots that are shown differ. If they don't, they show none of the differences, but for those
- *     that follow from another identifier alone
+ * @param {{differing: number, alike: number}} ballots how many ballots differ, and how many of these look the same. Ballots that look the
+ *     same show none of the differences, but for those that follow from another identifier alone; ballots that are the same show none
  */
-export function leftOutOf(entries, isShown) {
+export function leftOutOf(entries, { differing, alike }) {
+    return groupsOf(entries.filter(({ part, how, member, word, isCaused, isHidden }) => {
+        const isShown = differing > alike || (differing > 0 && isCaused);
+        return word !== 'unseen' && !(isShown && !isHidden && (how === 'member' ? isShownOf(part, member) : Object.hasOwn(SHOWN, part)));
+    }));
+}
+
+/** What no ballot shows, in groups with their counts. */
+export function unseenOf(entries) {
+    return groupsOf(entries.filter(({ word }) => word === 'unseen'));
+}
+
+function groupsOf(entries) {
     const groups = new Map();
-    for (const { part, how, member = null, word, isCaused, isHidden } of entries) {
-        const shows = (isShown || isCaused) && !isHidden && (how === 'member' ? isShownOf(part, member) : Object.hasOwn(SHOWN, part));
-        if (word !== 'unseen' && !shows) {
-            const key = JSON.stringify([part, how, member]);
-            groups.set(key, { part, how, member, count: (groups.get(key)?.count ?? 0) + 1 });
-        }
+    for (const { part, how, member = null } of entries) {
+        const key = JSON.stringify([part, how, member]);
+        groups.set(key, { part, how, member, count: (groups.get(key)?.count ?? 0) + 1 });
     }
     return [...groups.values()].sort((one, other) => other.count - one.count);
 }

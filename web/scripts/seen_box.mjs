@@ -1,5 +1,5 @@
-// Whether a voter sees any difference, in a box of its own: it is told from the ballots that the page shows, and from a table of the
-// profile of what they leave out.
+// Whether a voter sees any difference, in a box of its own: whether ballots differ comes from the proved code, and what they leave out from
+// a table of the profile.
 import { memberWords } from './comparison.mjs';
 import { documentButton } from './documents.mjs';
 import { element, saidWith } from './dom.mjs';
@@ -8,33 +8,35 @@ import { say } from './texts.mjs';
 const MOST_LEFT_OUT = 12;
 
 /** The sentence on the ballots of both files. */
-export function seenSentence({ count, listed, seen: { ballots, leftOut } }) {
-    if (ballots.differing > 0) {
-        return say('seen.differ', { differing: ballots.differing, all: ballots.all });
-    }
-    const isNothing = leftOut.length === 0 && listed === count;
-    return isNothing ? say('seen.unseen', { count }) : ballots.all === 0 ? say('seen.noBallots') : say('seen.shownSame', { count: ballots.all });
+export function seenSentence({ seen: { ballots: { all, differing } } }) {
+    return differing > 0 ? say('seen.differ', { differing, all }) : say(all === 0 ? 'seen.noBallots' : 'seen.shownSame');
 }
 
 /** The box for the differences that the list has. */
 export function seenBox(listed) {
-    const { count, seen: { ballots, leftOut, unseen } } = listed;
+    const { count, seen: { ballots, leftOut, noBallot, unseen } } = listed;
     const isQuiet = ballots.differing === 0 && leftOut.length === 0 && listed.listed === count;
     return element('section', { class: `seen ${isQuiet ? 'quiet' : 'touched'}`, 'aria-labelledby': 'seen' },
-        element('h3', { id: 'seen' }, seenSentence(listed)), ...leftOutShown(leftOut), ...partShown(listed),
+        element('h3', { id: 'seen' }, seenSentence(listed)), ...alikeShown(listed), ...leftOutShown(leftOut), ...partShown(listed),
         unseen === 0 ? null : element('p', {}, say('seen.count.unseen', { count: unseen }), ' ', say('seen.of', { count })),
+        unseen === 0 ? null : kindsShown(noBallot, 'no-ballot'),
         element('p', { class: 'note' }, say('seen.note'), ' ', documentButton('profile')));
+}
+
+/** How many of the ballots that differ look the same here. */
+export function alikeShown({ seen: { ballots: { alike } } }) {
+    return alike === 0 ? [] : [element('p', {}, say('seen.alike', { count: alike }))];
 }
 
 /** What the ballots of the page leave out, and a voter may see. */
 export function leftOutShown(leftOut) {
-    if (leftOut.length === 0) {
-        return [];
-    }
-    const more = leftOut.slice(MOST_LEFT_OUT).reduce((sum, { count }) => sum + count, 0);
-    const lines = leftOut.slice(0, MOST_LEFT_OUT).map((one) => element('li', {}, leftOutSentence(one)));
-    return [element('p', {}, say('seen.leftOut')), element('ul', { class: 'left-out' }, ...lines,
-        more === 0 ? null : element('li', {}, say('record.more', { count: more })))];
+    return leftOut.length === 0 ? [] : [element('p', {}, say('seen.leftOut')), kindsShown(leftOut, 'left-out')];
+}
+
+function kindsShown(kinds, name) {
+    const more = kinds.slice(MOST_LEFT_OUT).reduce((sum, { count }) => sum + count, 0);
+    const lines = kinds.slice(0, MOST_LEFT_OUT).map((one) => element('li', {}, leftOutSentence(one)));
+    return element('ul', { class: name }, ...lines, more === 0 ? null : element('li', {}, say('record.more', { count: more })));
 }
 
 /** Which differences the page has looked at for what the ballots leave out, where these are not all. */

@@ -32,6 +32,19 @@ function lineOf({ what: [what, key], depth, listed, selections }) {
     return { what, key, depth, isListed: listed, selections };
 }
 
+/** Two ballots beside each other, or which report is refused, and why. */
+export class BallotsBeside extends Checked {
+    /**
+     * @param {'left' | 'right' | null} side the report that is refused
+     * @param {object | null} beside what `erd_ballots_beside` answers for accepted reports
+     */
+    constructor(side, { outcome, faults, allFaults }, beside) {
+        super(outcome, faults, allFaults);
+        this.side = side;
+        this.ballots = beside === null ? null : { left: beside.left.map(lineOf), right: beside.right.map(lineOf), rows: beside.rows };
+    }
+}
+
 /** Which ballots are not the same in two reports, or which report is refused, and why. */
 export class BallotDifferences extends Compared {
     /**
@@ -48,11 +61,11 @@ export class BallotDifferences extends Compared {
         if (this.side !== null) {
             return super.text;
         }
-        return this.same ? ended('same ballots') : this.differences.map(({ line }) => ended(line)).join('');
+        return this.same ? ended('same ballots') : this.differences.flatMap(({ line, below }) => [line, ...below]).map(ended).join('');
     }
 }
 
-function differenceOf({ key, left, right }) {
+function differenceOf({ below, key, left, right }) {
     const how = right === null ? 'only left' : left === null ? 'only right' : 'differs';
-    return { key, left, right, how, line: lineOfBallot(key, WORDS[how]) };
+    return { key, left, right, how, line: lineOfBallot(key, WORDS[how]), below: below.split('\n').slice(0, -1) };
 }

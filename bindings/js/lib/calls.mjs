@@ -1,5 +1,5 @@
 // The calls, on top of the module.
-import { BallotDifferences, Ballots, OneBallot } from './ballots.mjs';
+import { BallotDifferences, Ballots, BallotsBeside, OneBallot } from './ballots.mjs';
 import { Engine, LINE, OUTCOME } from './engine.mjs';
 import { readExactly } from './exact.mjs';
 import { checkedOf, comparedOf, differencesOf, withCanonical, withoutCanonical } from './results.mjs';
@@ -76,6 +76,13 @@ export class Erd {
     /** Lists the differences of two reports. */
     differences(left, right, options) {
         const asked = askedFor(options, 'mostDifferences');
+        const { taken, all } = this.#list('erd_differences_values', pairOf(left, right), asked);
+        return differencesOf(taken, all);
+    }
+
+    /** Lists the differences of two reports without their values, so that more of them fit into a piece. The page asks so. */
+    differencesWithoutValues(left, right, options) {
+        const asked = askedFor(options, 'mostDifferences');
         const { taken, all } = this.#list('erd_differences_data', pairOf(left, right), asked);
         return differencesOf(taken, all);
     }
@@ -84,34 +91,51 @@ export class Erd {
     ballots(report, options) {
         const bytes = bytesOf(report, 'the report');
         const checked = this.check(bytes, options);
-        return new Ballots(checked, checked.accepted ? this.#ballots('erd_ballots', [bytes], options) : null);
+        return new Ballots(checked, checked.accepted ? this.toldOfBallots('erd_ballots', [bytes], options) : null);
     }
 
     /** Tells the ballot of the style at a position of a report, as `ballots` tells it. */
     ballot(report, position, options) {
-        if (!(Number.isInteger(position) && position >= 0 && position <= ALL)) {
-            throw new TypeError('the position is not a whole number from 0 on');
-        }
+        checkPosition(position);
         const bytes = bytesOf(report, 'the report');
         const checked = this.check(bytes, options);
-        return new OneBallot(checked, checked.accepted ? this.#ballots('erd_ballot', [bytes], options, position) : null);
+        return new OneBallot(checked, checked.accepted ? this.toldOfBallots('erd_ballot', [bytes], options, position) : null);
     }
 
     /** Tells which ballots are not the same in two reports. */
     ballotDifferences(left, right, options) {
         const reports = pairOf(left, right);
-        const both = [];
-        for (const [at, side] of ['left', 'right'].entries()) {
-            both.push(this.check(reports[at], options));
-            if (!both[at].accepted) {
-                return new BallotDifferences(side, both[at], []);
-            }
-        }
-        return new BallotDifferences(null, both[0], this.#ballots('erd_ballot_differences', reports, options));
+        const { side, found } = this.#checkedPair(reports, options);
+        return new BallotDifferences(side, found, side === null ? this.toldOfBallots('erd_ballot_differences', reports, options) : []);
     }
 
-    // What a call answers on the ballots of reports that are accepted. So the faults of a refused one are never in memory as a whole.
-    #ballots(name, reports, options, ...more) {
+    /** Tells the ballots of the styles at a position of each report beside each other, as `ballotDifferences` tells the positions. */
+    ballotsBeside(left, right, leftPosition, rightPosition, options) {
+        [leftPosition, rightPosition].forEach(checkPosition);
+        const reports = pairOf(left, right);
+        const { side, found } = this.#checkedPair(reports, options);
+        const told = side === null ? this.toldOfBallots('erd_ballots_beside', reports, options, leftPosition, rightPosition) : null;
+        return new BallotsBeside(side, found, told);
+    }
+
+    // How the first of two reports that is refused is judged, and which it is; or else how the right one is.
+    #checkedPair([left, right], options) {
+        const found = this.check(left, options);
+        if (!found.accepted) {
+            return { side: 'left', found };
+        }
+        const other = this.check(right, options);
+        return { side: other.accepted ? null : 'right', found: other };
+    }
+
+    /**
+     * What a call answers on the ballots of reports that are accepted, which it does not check: the faults of a refused one would be in
+     * memory as a whole.
+     * @param {string} name the call, such as `erd_ballots`
+     * @param {Uint8Array[]} reports
+     * @param {...number} more the numbers that follow the preference
+     */
+    toldOfBallots(name, reports, options, ...more) {
         return checked(this.#engine.ask(name, reports, askedFor(options, 'mostFaults').prefer, more, readExactly)).taken;
     }
 
@@ -158,6 +182,17 @@ export class Erd {
         const bytesOfReports = reports.map((report) => bytesOf(report, 'a report'));
         for (const { outcome, taken } of this.#pieces(COMMANDS[command], bytesOfReports, prefer, take)) {
             yield { status: outcome, bytes: taken };
+        }
+    }
+
+    /**
+     * The results of checking a report, piece by piece, so that no list is in memory as a whole: each has the next faults. A report that
+     * is accepted, or is not JSON, has one.
+     */
+    *checkedByPieces(report, options) {
+        const { prefer } = askedFor(options, 'mostFaults');
+        for (const { taken, all } of this.#pieces('erd_check_data_piece', [bytesOf(report, 'the report')], prefer, readExactly)) {
+            yield checkedOf(taken, all);
         }
     }
 
@@ -209,6 +244,12 @@ export class Erd {
     }
 }
 
+function checkPosition(position) {
+    if (!(Number.isInteger(position) && position >= 0 && position <= ALL)) {
+        throw new TypeError('the position is not a whole number from 0 on');
+    }
+}
+
 function checkLengths(reports) {
     if (reports.some((report) => report.length > MOST_BYTES)) {
         throw new TooLongError();
@@ -234,7 +275,7 @@ const COMMANDS = {
 const JSON_COMMANDS = {
     check: 'erd_check_data_piece',
     compare: 'erd_compare_data_piece',
-    differences: 'erd_differences_data',
+    differences: 'erd_differences_values',
 };
 
 function copied(bytes) {

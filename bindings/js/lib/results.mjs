@@ -118,7 +118,7 @@ export function comparedOf(answer, all) {
 
 /**
  * The result of `differences`.
- * @param {object | object[]} answer the value that `erd_differences_data` answers
+ * @param {object | object[]} answer the value that `erd_differences_values` answers
  * @param {number} all how many entries the list has
  */
 export function differencesOf(answer, all) {
@@ -149,10 +149,10 @@ function faultOf({ place, reason, name }) {
     return { place, pointer, reason, ...(name === undefined ? {} : { name }), words, line: lineOfFault(pointer, words) };
 }
 
-function differenceOf({ part, key, how, member, selections }) {
+function differenceOf({ part, key, how, member, selections, values }) {
     const difference = { part, key, ...wayOf({ how, member }) };
     const inside = selections === undefined ? {} : { selections: selections.map(({ name, ...way }) => ({ name, ...wayOf(way) })) };
-    return { ...difference, ...inside, line: lineOfDifference(difference) };
+    return { ...difference, ...inside, ...(values === undefined ? {} : { values }), line: lineOfDifference(difference) };
 }
 
 // How two objects or two selections differ. The rest of an answer is no part of a result.

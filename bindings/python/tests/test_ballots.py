@@ -90,8 +90,35 @@ def test_ballots_that_differ(top):
     assert {(difference.key[2], difference.how) for difference in found.differences} == set(zip(keys, ('differs', 'only left', 'only right')))
     assert [(difference.left, difference.right) for difference in found.differences if difference.how == 'differs'] == [(0, 0)]
     words = {'differs': 'differs', 'only left': 'only in the left report', 'only right': 'only in the right report'}
-    assert found.lines == tuple(f'ballot {erd.results.compact(list(it.key))}: {words[it.how]}' for it in found.differences)
+    heads = tuple(f'ballot {erd.results.compact(list(it.key))}: {words[it.how]}' for it in found.differences)
+    assert tuple(line for line in found.lines if line[0] != ' ') == heads
+    assert [len(it.below) > 1 for it in found.differences] == [it.how == 'differs' for it in found.differences]
+    assert [line for line in found.lines if line[0] == ' '] == [line for it in found.differences for line in it.below]
     assert not found.same and not found
+
+
+def test_ballots_beside_each_other(top):
+    """On the right ballot a contest is gone, the last line stands first, and two selections of a contest have changed places."""
+    left = json.loads((top / 'examples' / 'county-general.json').read_text(encoding='utf-8'))
+    flat = [{'@type': 'ElectionResults.OrderedContest', 'ContestId': contest['@id'],
+             'OrderedContestSelectionIds': [it['@id'] for it in contest['ContestSelection']]} for contest in left['Election'][0]['Contest'][:4]]
+    assert len(flat) == 4 and len(flat[1]['OrderedContestSelectionIds']) == 4
+    left['Election'][0]['BallotStyle'][0]['OrderedContent'] = flat
+    right = json.loads(json.dumps(left))
+    content = right['Election'][0]['BallotStyle'][0]['OrderedContent']
+    content[1]['OrderedContestSelectionIds'][:2] = reversed(content[1]['OrderedContestSelectionIds'][:2])
+    del content[2]
+    content.insert(0, content.pop())
+    found = erd.ballots_beside(json.dumps(left), json.dumps(right), 0, 0)
+    assert (found.is_there, found.refused, found.check) == (True, None, None)
+    assert found.left == erd.ballot(json.dumps(left), 0).ballot.lines and found.right == erd.ballot(json.dumps(right), 0).ballot.lines
+    assert {(row.how, row.left, row.right) for row in found.rows} == {
+        ('both', 0, 1), ('both', 1, 2), ('removed', 2, None), ('moved away', 3, 0), ('moved here', 3, 0)}
+    inside = next(row.selections for row in found.rows if row.left == 1)
+    assert sorted(row.how for row in inside) == ['both', 'both', 'both', 'moved away', 'moved here']
+    assert [row.name for row in inside if row.how != 'moved here'] == list(found.left[1].selections)
+    assert [row.name for row in inside if row.how != 'moved away'] == list(found.right[2].selections)
+    assert erd.ballots_beside(json.dumps(left), json.dumps(right), 0, 99) == erd.BallotsBeside()
 
 
 def named_by(style, election):
@@ -142,9 +169,12 @@ def test_what_is_refused():
     assert erd.ballot('{}', 0) == erd.OneBallot(erd.check('{}'))
     found = erd.ballot_differences('{}', '{')
     assert (found.refused, found.check, found.same, found.lines) == ('left', erd.check('{}'), False, ('left: : missing member @type',))
+    assert erd.ballots_beside('{}', '{', 0, 0) == erd.BallotsBeside(refused='left', check=erd.check('{}'))
     for position, error in ((-1, ValueError), (2 ** 64, ValueError), ('0', TypeError)):
-        with pytest.raises(error):
-            erd.ballot('{}', position)
+        for call in (lambda: erd.ballot('{}', position), lambda: erd.ballots_beside('{}', '{}', position, 0),
+                     lambda: erd.ballots_beside('{}', '{}', 0, position)):
+            with pytest.raises(error):
+                call()
 
 
 def test_a_preferred_type(top):

@@ -1,5 +1,6 @@
 """What the calls take and refuse, and what their results say."""
 
+import dataclasses
 import doctest
 import importlib
 import json
@@ -137,7 +138,10 @@ def test_differences(top):
     none, found = erd.differences(left, left), erd.differences(left, other)
     assert none and (none.lines, none.status, none.more) == (('same',), 0, False)
     assert not found and (found.status, found.all_differences) == (1, len(found.differences))
-    assert found.differences[0] == erd.compare(left, other).difference
+    first = found.differences[0]
+    assert first.values == {'left': 'Ingrith Sablewood', 'right': 'Ingrid Sablewood'}
+    assert dataclasses.replace(first, values=None) == erd.compare(left, other).difference
+    assert hash(first) == hash(dataclasses.replace(first, values=None))
     assert found.lines[0] == 'candidate ["local-level","","K-12"]: member "BallotName"'
     assert erd.differences(left, other, most_differences=0).all_differences == len(found.differences)
     refused = erd.differences(left, b'{')

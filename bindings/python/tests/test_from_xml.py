@@ -119,6 +119,8 @@ TOLD = {
     'two references': ('<Election><ElectionScopeId>a b</ElectionScopeId></Election>', '/ElectionReport/Election[1]/ElectionScopeId',
                        {'Election': [{'@type': 'ElectionResults.Election', 'ElectionScopeId': 'a b'}]}, 1),
     'nil with a text': ('<Notes xsi:nil="true">a</Notes>', '/ElectionReport/Notes', {'Notes': 'a'}, 1),
+    'nil with an element': ('<Party xsi:nil="true" xsi:type="Party"><Color>b</Color></Party>', '/ElectionReport/Party[1]',
+                            {'Party': [{'@type': 'ElectionResults.Party', 'Color': 'b'}]}, 1),
     'a name of version 1': ('<GpUnitCollection/>', '/ElectionReport/GpUnitCollection', {'GpUnitCollection': ''}, 1),
 }
 

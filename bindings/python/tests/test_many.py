@@ -13,7 +13,7 @@ from concurrent.futures.process import BrokenProcessPool
 
 import pytest
 
-from erd import running
+from erd import many, running
 from erd.judging import Row
 
 
@@ -58,7 +58,7 @@ def look_at(rows):
         'refused.json': 'refused', 'long.json': 'too long'}
     assert rows['a.json']['sha256'] == rows['b.json']['sha256'] != rows['c.json']['sha256']
     assert [rows[name]['group'] for name in ('a.json', 'b.json', 'c.json', 'empty.json')] == [1, 1, 2, None]
-    assert rows['refused.json']['faults'] == 1
+    assert (rows['refused.json']['faults'], rows['refused.json']['reasons'], rows['a.json']['reasons']) == (1, [2], [])
 
 
 @pytest.mark.parametrize('jobs', [1, 3])
@@ -75,12 +75,16 @@ def test_sha256_is_that_of_the_canonical_form(run, top, ballots):
     assert rows['a.json']['sha256'] == hashlib.sha256(form).hexdigest()
 
 
+WHAT_MAY_FIX = ('1 file: reason 2 (missing member): steps that may fix it: class-names; otherwise ask the vendor: Write the member that is missing. '
+                'The standard requires it.\n')
+
+
 def test_csv_and_table(run, ballots):
     rows = list(csv.DictReader(io.StringIO(run('--csv', ballots).stdout)))
     assert len(rows) == 6 and {row['verdict'] for row in rows} == {'accepted', 'not JSON', 'refused', 'too long'}
     table = run(ballots).stdout
     assert table.splitlines()[0].split() == ['file', 'verdict', 'faults', 'sha256', 'of', 'the', 'canonical', 'form', 'group']
-    assert table.endswith('\n6 files, 3 accepted, in 2 groups\n')
+    assert table.endswith('\n6 files, 3 accepted, in 2 groups\n' + WHAT_MAY_FIX)
 
 
 def test_a_group_for_each_meaning(run, top, tmp_path):
@@ -111,6 +115,11 @@ def test_names_of_files_do_not_paint_the_terminal(run, ballots):
     ('a.json', ['a.json']), ('**/a.json', ['a.json']), ('**/**/b.json', ['b.json']), ('inner/*.json', ['b.json']), ('*.txt', ['other.txt'])])
 def test_pattern(run, ballots, pattern, names):
     assert sorted(rows_by_name(run('--json', '--pattern', pattern, ballots))) == names
+
+
+def test_a_pattern_is_for_names_below_the_folder(run, ballots):
+    ran = run('--json', '--pattern', f'{ballots.name}/*.json', ballots)
+    assert (ran.returncode, ran.stdout, ran.stderr) == (3, '', 'there is no file to judge\n')
 
 
 @pytest.mark.parametrize(('words', 'wrong'), [
@@ -268,6 +277,22 @@ def test_cluster(run, ballots, tmp_path):
             it.wait()
 
 
+def test_the_workers_of_a_cluster_have_the_preference(top, tmp_path, monkeypatch, capfd):
+    asked = []
+
+    def run_on_cluster(address, judge, files, prefer):
+        asked.append((address, prefer))
+        return [judge(file, prefer) for file in files]
+
+    monkeypatch.setenv('XDG_STATE_HOME', str(tmp_path))
+    monkeypatch.setattr(many, 'run_on_cluster', run_on_cluster)
+    case = top / 'out' / 'conformance' / 'prefer-accepted-under-a-preference'
+    prefer = (case / 'prefer').read_text('utf-8').rstrip('\n')
+    status = many.main(['--json', '--scheduler', 'tcp://room:1', '--prefer', prefer, str(case / 'input.json')])
+    row, = json.loads(capfd.readouterr().out)
+    assert (status, asked, row['verdict']) == (0, [('tcp://room:1', prefer)], 'accepted')
+
+
 def test_a_cluster_that_is_not_there(run, ballots):
     pytest.importorskip('distributed')
     ran = run('--json', '--scheduler', 'tcp://127.0.0.1:1', ballots, timeout=300)
@@ -285,6 +310,7 @@ def test_prepare(run, top, tmp_path):
     rows = rows_by_name(run('--json', folder))
     assert [rows[name]['verdict'] for name in ('export.json', 'again.json', 'broken.json')] == ['refused', 'refused', 'not JSON']
     assert 'prepared' not in rows['export.json']
+    assert [rows[name]['reasons'] for name in ('export.json', 'again.json', 'broken.json')] == [[4, 5], [4, 5], []]
     rows = rows_by_name(run('--json', '--prepare', 'removed,filled-in', '--jobs', 2, folder))
     assert [rows[name]['verdict'] for name in ('export.json', 'again.json', 'broken.json')] == ['accepted', 'accepted', 'not JSON']
     assert [rows[name]['group'] for name in ('again.json', 'export.json')] == [1, 2]
@@ -292,6 +318,7 @@ def test_prepare(run, top, tmp_path):
     assert (folder / 'export.json').read_bytes() == export
     table = run('--prepare', 'outside', folder).stdout
     assert table.splitlines()[0].endswith('prepared by') and 'outside 18' in table
+    assert '\n2 files: reason 4 (not a whole number): steps that may fix it: coordinates, whole-numbers; otherwise ask the vendor: ' in table
     rows = list(csv.DictReader(io.StringIO(run('--csv', '--prepare', 'outside', folder).stdout)))
     assert {row['prepared'] for row in rows} == {'outside 18', ''}
     assert run('--prepare', 'nosuch', folder).returncode == 3

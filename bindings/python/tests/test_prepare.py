@@ -47,6 +47,32 @@ def test_what_is_left():
     assert (done[0].count, done[0].left_count, done[0].left[0].place) == (0, 1, ('Party', 0))
 
 
+def test_the_same_steps_for_two_files(top):
+    """Two exports of one vendor's report mean the same, once the same steps were done on both; one of them alone is refused."""
+    report = json.loads((top / 'examples' / 'county-general.raw.json').read_text(encoding='utf-8-sig'))
+    left, right = (json.dumps(it).encode() for it in (report, dict(reversed(report.items()))))
+    names = prepare.steps_of('removed', 'filled-in')
+    found = prepare.compare_prepared(left, right, iter(names))
+    assert (found.comparison.lines, found.left, found.right) == (('same',), prepare.prepare(left, names)[0], prepare.prepare(right, names)[0])
+    assert [step.name for step in found.left_done] == [step.name for step in found.right_done] == [step.name for step in prepare.prepare(left, names)[1]]
+    refused = prepare.compare_prepared(left, right)
+    assert (refused.comparison.refused, refused.comparison.same) == ('left', False)
+    one_unit = (top / 'examples' / 'one-unit.json').read_bytes()
+    assert prepare.compare_prepared(one_unit, right).comparison.refused == 'right'
+    assert prepare.compare_prepared(one_unit.replace(b'Test', b'Other'), one_unit).comparison.lines == ('election: member "Name"',)
+
+
+def test_the_same_steps_under_a_preference(top):
+    """By the numbers of the state, two units have one key."""
+    kinds = '},{"@type":"ElectionResults.ExternalIdentifier","Type":"state-level","Value":"7"}'
+    unit = '{"@id":"u8","@type":"ElectionResults.ReportingUnit","Type":"precinct","ExternalIdentifier":[' \
+        '{"@type":"ElectionResults.ExternalIdentifier","Type":"local-level","Value":"U2"' + kinds + ']},'
+    text = (top / 'examples' / 'one-unit.json').read_text(encoding='utf-8')
+    two = text.replace('"Value":"U1"}', '"Value":"U1"' + kinds).replace('{"@id":"u7"', unit + '{"@id":"u7"').encode()
+    assert prepare.compare_prepared(two, two).comparison.same
+    assert prepare.compare_prepared(two, two, prefer='state-level').comparison.lines == ('left: /GpUnit/1: identifier used twice',)
+
+
 def test_what_to_do_about_a_fault_that_is_left():
     """For each reason there are steps that may fix it, or none, and a sentence for the vendor."""
     names = [step.name for step in prepare.STEPS]
@@ -164,8 +190,9 @@ def test_command(top, name, groups):
     prepared, done = prepare.prepare(path.read_bytes(), prepare.steps_of(*groups))
     left = erd.check(prepared, most_faults=None)
     assert (ran.returncode, ran.stdout) == (left.status, prepared)
+    reasons = dict.fromkeys(fault.reason for fault in left.faults)
     assert ran.stderr.decode('utf-8').splitlines() == [f'{step.name}: {step.count} changed' for step in done] + [
-        line for line in left.lines if not left.accepted]
+        line for line in left.lines if not left.accepted] + [prepare.remedy_of(reason).line(reason) for reason in reasons]
 
 
 def test_the_steps_of_a_plain_command(top):
@@ -213,6 +240,29 @@ def test_commands_that_are_refused(tmp_path):
     assert (ran.returncode, ran.stdout, ran.stderr) == (3, b'', f'cannot open\n{tmp_path / "nosuch"}\n'.encode())
 
 
+def test_commands_of_a_file_with_a_mark(tmp_path):
+    """The mark is taken off, and told before all else."""
+    path = tmp_path / 'marked.json'
+    path.write_bytes(MARK + TWO)
+    without = tmp_path / 'without.json'
+    without.write_bytes(TWO)
+    ran = run('--steps', 'nulls', path)
+    assert (ran.returncode, ran.stdout) == (1, prepare.prepare(TWO, ['nulls'])[0])
+    assert ran.stderr.startswith(b'byte order mark: taken off\nnulls: 1 changed\n: missing member Election\n')
+    for words in (('--list',), ('--report',)):
+        plain, marked = run(*words, without), run(*words, path)
+        assert (marked.returncode, marked.stdout, marked.stderr) == (0, plain.stdout, b'byte order mark: taken off\n')
+    path.write_bytes(MARK + b'{')
+    for words in ((), ('--list',), ('--report',)):
+        ran = run(*words, path)
+        assert (ran.returncode, ran.stdout, ran.stderr) == (2, b'', b'byte order mark: taken off\nnot JSON\n')
+
+
+USED_TWICE = (b'reason 13 (identifier used twice): steps that may fix it: town-codes, county-codes, shared-codes, write-in-candidates, codes; '
+              b'otherwise ask the vendor: Give each object an identifier that no other object of its sort has. '
+              b'Put the county, party or election in front of numbers that begin again.\n')
+
+
 def test_command_with_a_preferred_type(tmp_path):
     """Two units have numbers of their own, and that of the state both."""
     units = [{'@type': 'ElectionResults.ReportingUnit', '@id': name, 'Type': 'precinct', 'ExternalIdentifier': [
@@ -223,7 +273,7 @@ def test_command_with_a_preferred_type(tmp_path):
     path = tmp_path / 'units.json'
     path.write_text(json.dumps({'@type': 'ElectionResults.ElectionReport', 'Status': 'pre-election', 'GpUnit': units, 'Election': [election]}))
     for words, status, left in (([], 0, b''), (['--prefer', 'local-level'], 0, b''),
-                                (['--prefer=state-level'], 1, b'/GpUnit/1: identifier used twice\n')):
+                                (['--prefer=state-level'], 1, b'/GpUnit/1: identifier used twice\n' + USED_TWICE)):
         ran = run(*words, path)
         assert (ran.returncode, ran.stderr.split(b'\n', 1)[1]) == (status, left)
 

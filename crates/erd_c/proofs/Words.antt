@@ -1,5 +1,6 @@
 -- How the bytes of a command line are cut into words, and what is told of the answer.
-use Rattle.std.proofs.Common.{◌≡◌, ◌≢◌, ℕ, zero, suc, List, [], ◌∷◌, ◌++◌, Option, Result, Ok, Err, inl, inr, refl, sym, ap, ◌∙◌, append_assoc, append-nil, subst, map, length, drop, ◌+◌, ◌<◌, slice_index_or, ◌==◌, true, false, Bool, Vec, Global, String, string_bytes, arith, add-one}
+use Rattle.std.proofs.Common.{◌≡◌, ◌≢◌, ℕ, zero, suc, List, [], ◌∷◌, ◌++◌, Option, Result, Ok, Err, inl, inr, refl, sym, ap, ◌∙◌, append_assoc, append-nil}
+use Rattle.std.proofs.Common.{subst, map, length, drop, ◌+◌, ◌<◌, slice_index_or, ◌==◌, true, false, Bool, Vec, Global, String, string_bytes, arith, add-one}
 use Rattle.std.proofs.Math.Seq.{drop-cons}
 use Rattle.std.proofs.lemmas.List.{get_or-map, length-map}
 use Rattle.std.proofs.lemmas.Bool.Decides.{nat_tests}
@@ -43,7 +44,8 @@ other_begins (suc n) bytes other = refl
 pub word_ends : (done : List (List ℕ)) (word rest : List ℕ) (b : ℕ) (all : List (List ℕ)) → b ≡ 0 → done ++ joined word (words_in (b ∷ rest)) ≡ all
     → (done ++ word ∷ []) ++ joined [] (words_in rest) ≡ all
 word_ends done word rest b all is so_far =
-    append_assoc done (word ∷ []) (words_in rest) ∙ ap (λ ws. done ++ ws) (sym (ap (joined word) (zero_ends b rest is) ∙ joined_word word (words_in rest))) ∙ so_far
+    append_assoc done (word ∷ []) (words_in rest) ∙ ap (λ ws. done ++ ws) (sym (ap (joined word) (zero_ends b rest is) ∙ joined_word word (words_in rest)))
+    ∙ so_far
 
 -- another byte is put behind it
 pub word_goes_on : (done : List (List ℕ)) (word rest : List ℕ) (b : ℕ) (all : List (List ℕ)) → b ≢ 0 → done ++ joined word (words_in (b ∷ rest)) ≡ all
@@ -75,7 +77,8 @@ so_far_ahead : (bytes : List ℕ) (done : List (List ℕ)) (word : List ℕ) (i 
 so_far_ahead bytes done word i low so_far = subst (λ r. done ++ joined word (words_in r) ≡ words_in bytes) (ahead i bytes low) so_far
 
 -- the step of the loop over a zero byte
-pub after_zero : (bytes : List ℕ) (done more : List (List ℕ)) (word next : List ℕ) (i : ℕ) → i < length bytes → slice_index_or bytes i 0 ≡ 0 → more ≡ done ++ word ∷ [] → next ≡ []
+pub after_zero : (bytes : List ℕ) (done more : List (List ℕ)) (word next : List ℕ) (i : ℕ) → i < length bytes → slice_index_or bytes i 0 ≡ 0
+    → more ≡ done ++ word ∷ [] → next ≡ []
     → SoFar bytes done word i → SoFar bytes more next (i + 1)
 after_zero bytes done more word next i low is ended none so_far =
     subst (λ n. SoFar bytes more n (i + 1)) (sym none) (subst (λ m. SoFar bytes m [] (i + 1)) (sym ended)
@@ -103,7 +106,8 @@ pub full_is : (v : Vec ℕ Global) (b : Bool) → b ≡ (vec_len v == 0) → b �
 full_is v b tells is = is_some_word v.items v.len v.ok.0 (sym tells ∙ is)
 
 -- a word among texts is text
-pub text_among : (words : List (Vec ℕ Global)) (i : ℕ) (v : Vec ℕ Global) → i < length words → v ≡ slice_index_or words i v → AreTexts (map held words) → IsUtf8 v.items
+pub text_among : (words : List (Vec ℕ Global)) (i : ℕ) (v : Vec ℕ Global) → i < length words → v ≡ slice_index_or words i v
+    → AreTexts (map held words) → IsUtf8 v.items
 text_among words i v low is all =
     let below : i < length (map held words) = omega (arith, low, length-map words held) in
     subst IsUtf8 (get_or-map held words i v [] low ∙ sym (ap held is)) (all i [] below)
@@ -126,12 +130,14 @@ strings_are_texts (word ∷ words) zero d low = IsUtf8-string_bytes word
 strings_are_texts (word ∷ words) (suc k) d low = strings_are_texts words k d (omega arith)
 
 -- the answer for words that are texts
-pub texts_answered : (bytes : List ℕ) (words : List (String Global)) (status : Option ℕ) (text : List ℕ) → map string_bytes words ≡ words_in bytes → IsLineData (map string_bytes words) status text
+pub texts_answered : (bytes : List ℕ) (words : List (String Global)) (status : Option ℕ) (text : List ℕ) → map string_bytes words ≡ words_in bytes
+    → IsLineData (map string_bytes words) status text
     → IsWordsAnswer bytes status text
 texts_answered bytes words status text same is = inl (subst AreTexts same (strings_are_texts words), subst (λ w. IsLineData w status text) same is)
 
 -- all that the call tells of an answer
-pub answer_told : (bytes : List ℕ) (status : Option ℕ) (text : List ℕ) (told : Told) (before after : List ℕ) → IsWordsAnswer bytes status text → told.outcome ≡ line_number status → told.length ≡ length text
+pub answer_told : (bytes : List ℕ) (status : Option ℕ) (text : List ℕ) (told : Told) (before after : List ℕ) → IsWordsAnswer bytes status text → told.outcome
+    ≡ line_number status → told.length ≡ length text
     → IsPut text before after → IsLineCall bytes told before after
 answer_told bytes status text told before after is number count put = record {
   answered = λ _. record { status = status; text = text; answers = is; number = number; count = count; put = put };

@@ -55,7 +55,8 @@ IsWrong prefers prefer longest = ((prefers ≡ true) × ¬ IsUtf8 prefer) ⊎ (m
 
 -- All that a call tells. With an outcome of 0, 1 or 2 it tells an answer under the preference. With 3 or 4 it has no text. It is
 -- 3 if and only if the arguments are wrong.
-pub record IsCall (Answers : Preference → Outcome → List ℕ → Type 0) (prefers : Bool) (prefer : List ℕ) (longest : ℕ) (told : Told) (before after : List ℕ) : Type 0 where
+pub record IsCall (Answers : Preference → Outcome → List ℕ → Type 0) (prefers : Bool) (prefer : List ℕ) (longest : ℕ) (told : Told)
+    (before after : List ℕ) : Type 0 where
   pub answered : told.outcome < 3 → IsAnswerTold (Answers (preference prefers prefer)) told before after
   pub silent : 3 ≤ told.outcome → HasNoText told before after
   pub wrong : (told.outcome ≡ 3) ↔ IsWrong prefers prefer longest
@@ -83,6 +84,7 @@ pub record IsPieceTold (Answers : Piece → Outcome → PieceTold → List ℕ �
   pub answers : Answers (piece_of before) outcome told text
 
 -- All that a call tells that is asked for a piece of a list: with 3 or 4 it tells of no list.
-pub record IsPieceCall (Answers : Preference → Piece → Outcome → PieceTold → List ℕ → Type 0) (prefer : List ℕ) (longest : ℕ) (wanted asked : Wanted) (told : Told) (before after : List ℕ) : Type 0 where
+pub record IsPieceCall (Answers : Preference → Piece → Outcome → PieceTold → List ℕ → Type 0) (prefer : List ℕ) (longest : ℕ) (wanted asked : Wanted)
+    (told : Told) (before after : List ℕ) : Type 0 where
   pub call : IsCall (λ π. IsPieceTold (Answers π) wanted asked) wanted.prefers prefer longest told before after
   pub silent : 3 ≤ told.outcome → IsToldNothing wanted asked

@@ -2,13 +2,15 @@
 
 ghost use Rattle.std.specs.Prelude.{IfOk, length, max};
 ghost use Rattle.std.specs.Option.{option_copied};
-ghost use Rattle.erd_canon.specs.BallotAnswers.{IsBallotDifferencesData, IsBallotsData};
+ghost use Rattle.erd_canon.specs.BallotAnswers.{IsBallotDifferencesData, IsBallotsBesideData, IsBallotsData};
 ghost use Rattle.erd_canon.specs.declared.data.ballots.BallotsAsked.TheVariants.{Ballot, Heads};
 ghost use Rattle.erd_c.specs.Told.{IsCall};
 
 use crate::answers::Answer;
 use crate::told::{Told, given, tell};
-use erd_canon::{BallotsAsked, ballot_differences_data_with, ballots_data_with};
+use erd_canon::{
+    BallotsAsked, ballot_differences_data_with, ballots_beside_data_with, ballots_data_with,
+};
 use std::alloc::Global;
 
 /// Lists the ballots of a report, and answers with JSON.
@@ -65,10 +67,44 @@ pub extern "C" fn erd_tell_ballot_differences(
     prefer: &[u8],
     room: &mut [u8],
 ) -> Told
-    ensures { IsCall (λ π. IsBallotDifferencesData π left.now right.now) prefers prefer.now (max (length left.now) (length right.now)) result room.old room.new }
+    ensures { IsCall (λ π. IsBallotDifferencesData π left.now right.now) prefers prefer.now (max (length left.now) (length right.now))
+        result room.old room.new }
 {
     match given(prefers, prefer, left.len().max(right.len())) {
         Ok(prefer) => tell(differences(alloc, left, right, prefer), room),
+        Err(told) => told,
+    }
+}
+
+/// Which ballots of two reports stand beside each other: the positions of their styles.
+#[repr(C)]
+#[derive(Drop)]
+pub struct Positions {
+    /// The position of the style in the left report.
+    pub left: usize,
+    /// The position of the style in the right report.
+    pub right: usize,
+    /// Whether the call has a preferred type of identifier.
+    pub prefers: bool,
+}
+
+/// Tells the ballots of two reports beside each other, and answers with JSON.
+///
+/// The text is the compact JSON that `erd_canon::ballots_beside_data_with` answers, with no line end.
+#[unsafe(no_mangle)]
+pub extern "C" fn erd_tell_ballots_beside(
+    alloc: Global,
+    left: &[u8],
+    right: &[u8],
+    prefer: &[u8],
+    at: &Positions,
+    room: &mut [u8],
+) -> Told
+    ensures { IsCall (λ π. IsBallotsBesideData at.now.left at.now.right π left.now right.now) at.now.prefers prefer.now
+        (max (length left.now) (length right.now)) result room.old room.new }
+{
+    match given(at.prefers, prefer, left.len().max(right.len())) {
+        Ok(prefer) => tell(beside(alloc, left, right, prefer, at), room),
         Err(told) => told,
     }
 }
@@ -86,5 +122,15 @@ fn differences(alloc: Global, left: &[u8], right: &[u8], prefer: Option<&str>) -
     ensures { IfOk result (λ answer. IsBallotDifferencesData (option_copied prefer.entry) left.now right.now answer.0 answer.1.items) }
 {
     let answer = ballot_differences_data_with(alloc, left, right, prefer)?;
+    Ok((answer.outcome, answer.text.into_bytes()))
+}
+
+/// Tells the ballots of the styles at two positions of the bytes of two reports beside each other. Returns the outcome and the
+/// JSON text.
+fn beside(alloc: Global, left: &[u8], right: &[u8], prefer: Option<&str>, at: &Positions) -> Answer
+    ensures { IfOk result (λ answer. IsBallotsBesideData at.now.left at.now.right (option_copied prefer.entry) left.now right.now
+        answer.0 answer.1.items) }
+{
+    let answer = ballots_beside_data_with(alloc, left, at.left, right, at.right, prefer)?;
     Ok((answer.outcome, answer.text.into_bytes()))
 }

@@ -8,8 +8,10 @@
 
 ghost use Rattle.std.specs.Prelude.{length, max};
 ghost use Rattle.erd_canon.specs.DataAnswers.{IsCheckedData, IsComparedData};
-ghost use Rattle.erd_canon.specs.Pieces.{IsCheckLines, IsCheckPiece, IsCompareLines, IsComparePiece, IsFormLines, IsFormPiece, IsListLines, IsListPiece, IsPieceText};
+ghost use Rattle.erd_canon.specs.Pieces.{IsCheckLines, IsCheckPiece, IsCompareLines, IsComparePiece, IsFormLines, IsFormPiece, IsListLines, IsListPiece};
+ghost use Rattle.erd_canon.specs.Pieces.{IsPieceText};
 ghost use Rattle.erd_canon.specs.Run.{IsChecked, IsCompared};
+ghost use Rattle.erd_canon.specs.ValuedAnswers.{IsValuesPiece};
 ghost use Rattle.erd_c.specs.Told.{HasCanonicalText, IsCall, IsPieceCall};
 
 mod answers;
@@ -20,7 +22,10 @@ mod questions;
 mod told;
 
 use answers::{canonical, checked, checked_data, compared, compared_data};
-pub use ballots::{erd_tell_ballot, erd_tell_ballot_differences, erd_tell_ballots};
+pub use ballots::{
+    Positions, erd_tell_ballot, erd_tell_ballot_differences, erd_tell_ballots,
+    erd_tell_ballots_beside,
+};
 pub use line::erd_tell_command_line;
 pub use prepared::erd_tell_prepared;
 use questions::Question;
@@ -197,6 +202,25 @@ pub extern "C" fn erd_tell_differences_data(
         prefer.now (max (length left.now) (length right.now)) wanted.old wanted.new result room.old room.new }
 {
     Question::DifferencesData(left, right).tell(alloc, prefer, wanted, room)
+}
+
+/// Lists the differences in meaning of two reports, as `erd_tell_differences_data` does, each with what the two reports have
+/// there.
+///
+/// The text is the compact JSON that `erd_canon::differences_values_piece` answers, with no line end.
+#[unsafe(no_mangle)]
+pub extern "C" fn erd_tell_differences_values(
+    alloc: Global,
+    left: &[u8],
+    right: &[u8],
+    prefer: &[u8],
+    wanted: &mut Wanted,
+    room: &mut [u8],
+) -> Told
+    ensures { IsPieceCall (λ π. IsValuesPiece π left.now right.now)
+        prefer.now (max (length left.now) (length right.now)) wanted.old wanted.new result room.old room.new }
+{
+    Question::DifferencesValues(left, right).tell(alloc, prefer, wanted, room)
 }
 
 /// Checks a report, as `erd_tell_check` does, and answers with a piece of the list of faults.

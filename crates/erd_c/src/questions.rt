@@ -9,7 +9,7 @@ use crate::told::{Told, Wanted, given, tell_nothing, tell_piece};
 use erd_canon::{
     Piece, PieceAnswer, canonical_data_piece, canonical_text_piece, check_data_piece,
     check_text_piece, compare_data_piece, compare_text_piece, differences_data_piece,
-    differences_text_piece,
+    differences_text_piece, differences_values_piece,
 };
 use std::alloc::{AllocError, Global};
 
@@ -20,6 +20,7 @@ pub(crate) enum Question<'a> {
     CanonicalData(&'a [u8]),
     CompareData(&'a [u8], &'a [u8]),
     DifferencesData(&'a [u8], &'a [u8]),
+    DifferencesValues(&'a [u8], &'a [u8]),
     CheckLines(&'a [u8]),
     CanonicalLines(&'a [u8]),
     CompareLines(&'a [u8], &'a [u8]),
@@ -54,6 +55,7 @@ impl<'a> Question<'a> {
             | Self::CanonicalLines(bytes) => bytes.len(),
             Self::CompareData(left, right)
             | Self::DifferencesData(left, right)
+            | Self::DifferencesValues(left, right)
             | Self::CompareLines(left, right)
             | Self::DifferencesLines(left, right) => left.len().max(right.len()),
         }
@@ -80,6 +82,9 @@ impl<'a> Question<'a> {
             Self::CanonicalData(bytes) => canonical_data_piece(alloc, bytes, prefer, piece),
             Self::DifferencesData(left, right) => {
                 differences_data_piece(alloc, left, right, prefer, piece)
+            }
+            Self::DifferencesValues(left, right) => {
+                differences_values_piece(alloc, left, right, prefer, piece)
             }
             Self::CanonicalLines(bytes) => canonical_text_piece(alloc, bytes, prefer, piece),
             Self::DifferencesLines(left, right) => {

@@ -2,13 +2,14 @@
 -- with the bytes that were read.
 use Rattle.std.specs.Prelude.{◌≡◌, ◌≢◌, ◌↔◌, ◌⊎◌, ◌+◌, ◌++◌, ◌<◌, ◌≤◌, ℕ, List, [], ◌∷◌, Option, true, Result, Err, IfOk, IfErr, IsErrOf, OnOk, codes, map}
 use Rattle.std.specs.Io.KnownBytes.{Appends, IsAtEnd}
-use Rattle.erd_canon.specs.DataAnswers.{IsCheckedData, IsComparedData, IsListedData, listing_outcome}
+use Rattle.erd_canon.specs.DataAnswers.{IsCheckedData, IsComparedData, listing_outcome}
 use Rattle.erd_canon.specs.Devices.{BeforeAfter, Reader, Writer}
 use Rattle.erd_canon.specs.EngineTexts.{AreCompared, text_of_lines}
 use Rattle.erd_canon.specs.Limits.{most_bytes, most_reads}
 use Rattle.erd_canon.specs.Reading.{Exceeds, IsReadWhole}
 use Rattle.erd_canon.specs.Refused.{IsSomeReport}
 use Rattle.erd_canon.specs.Run.{IsSideRefused}
+use Rattle.erd_canon.specs.ValuedAnswers.{IsValuesList}
 use Rattle.erd_canon.specs.Writing.{IsPartWritten}
 use Rattle.erd_canon.specs.declared.engines.outcome.Outcome.{Outcome}
 use Rattle.erd_canon.specs.declared.engines.outcome.RunFault.{RunFault}
@@ -29,9 +30,9 @@ IsCheckLine π bytes outcome text = IsLineOf (IsCheckedData π bytes outcome) te
 abbrev pub IsCompareLine : Preference → List ℕ → List ℕ → Outcome → List ℕ → Type 0
 IsCompareLine π left right outcome text = IsLineOf (IsComparedData π left right outcome) text
 
--- Listing the differences of the two inputs ends with this outcome and answers this line of JSON.
+-- Listing the differences with their values ends with this outcome and answers this line of JSON.
 abbrev pub IsListLine : Preference → List ℕ → List ℕ → Outcome → List ℕ → Type 0
-IsListLine π left right outcome text = IsLineOf (IsListedData π left right outcome) text
+IsListLine π left right outcome text = IsLineOf (IsValuesList π left right outcome) text
 
 -- The lines for the differences of two accepted reports: `same` if there are none, or else one for each.
 abbrev pub listing_lines : List Difference → List (List ℕ)
@@ -48,7 +49,8 @@ IsPairTold π Both left right outcome out =
 
 -- The text has a line for each difference of two accepted reports.
 abbrev pub AreListed : Preference → List ℕ → List ℕ → Outcome → List ℕ → Type 0
-AreListed π left right outcome out = (found : List Difference) × AreCompared π left right found × (outcome ≡ listing_outcome found) × (out ≡ text_of_lines (listing_lines found))
+AreListed π left right outcome out = (found : List Difference) × AreCompared π left right found × (outcome ≡ listing_outcome found)
+    × (out ≡ text_of_lines (listing_lines found))
 
 -- Listing the differences of the two inputs ends with this outcome and writes this text: why an input is refused, else a line for
 -- each difference.
@@ -70,7 +72,8 @@ pub record IsReportPartWritten (Answers : List ℕ → Outcome → List ℕ → 
   pub part : IsPartWritten before after text
 
 -- The run on the two inputs ends with this outcome. If the bytes of the writer are known, its text was written, and nothing else.
-pub record IsPairWritten (Answers : List ℕ → List ℕ → Outcome → List ℕ → Type 0) (left right : List ℕ) (outcome : Outcome) (before after : Option (List ℕ)) : Type 0 where
+pub record IsPairWritten (Answers : List ℕ → List ℕ → Outcome → List ℕ → Type 0) (left right : List ℕ) (outcome : Outcome)
+    (before after : Option (List ℕ)) : Type 0 where
   pub text : List ℕ
   pub answers : Answers left right outcome text
   pub wrote : Appends before after text
@@ -85,7 +88,8 @@ pub record IsPairPartWritten (Answers : List ℕ → List ℕ → Outcome → Li
 
 -- If the bytes of the devices are known: the reader was read to its end within the limit, and the text for its bytes was
 -- written, and nothing else.
-pub record IsWholeReport (Answers : List ℕ → Outcome → List ℕ → Type 0) (limit : ℕ) (outcome : Outcome) (before after out_before out_after : Option (List ℕ)) : Type 0 where
+pub record IsWholeReport (Answers : List ℕ → Outcome → List ℕ → Type 0) (limit : ℕ) (outcome : Outcome)
+    (before after out_before out_after : Option (List ℕ)) : Type 0 where
   pub input : List ℕ
   pub whole : IsReadWhole limit before after input
   pub written : IsReportWritten Answers input outcome out_before out_after
@@ -99,7 +103,8 @@ pub record IsBrokenReport (Answers : List ℕ → Outcome → List ℕ → Type 
 
 -- If the bytes of the devices are known: both readers were read to their ends within the limit, and the text for their bytes was
 -- written, and nothing else.
-pub record IsWholePair (Answers : List ℕ → List ℕ → Outcome → List ℕ → Type 0) (limit : ℕ) (outcome : Outcome) (left_before left_after right_before right_after out_before out_after : Option (List ℕ)) : Type 0 where
+pub record IsWholePair (Answers : List ℕ → List ℕ → Outcome → List ℕ → Type 0) (limit : ℕ) (outcome : Outcome)
+    (left_before left_after right_before right_after out_before out_after : Option (List ℕ)) : Type 0 where
   pub left : List ℕ
   pub right : List ℕ
   pub left_whole : IsReadWhole limit left_before left_after left
@@ -108,7 +113,8 @@ pub record IsWholePair (Answers : List ℕ → List ℕ → Outcome → List ℕ
 
 -- If the bytes of the devices are known: both readers were read to their ends within the limit, and a first part of the text for
 -- their bytes was written, and nothing else.
-pub record IsBrokenPair (Answers : List ℕ → List ℕ → Outcome → List ℕ → Type 0) (limit : ℕ) (left_before left_after right_before right_after out_before out_after : Option (List ℕ)) : Type 0 where
+pub record IsBrokenPair (Answers : List ℕ → List ℕ → Outcome → List ℕ → Type 0) (limit : ℕ)
+    (left_before left_after right_before right_after out_before out_after : Option (List ℕ)) : Type 0 where
   pub left : List ℕ
   pub right : List ℕ
   pub left_whole : IsReadWhole limit left_before left_after left
@@ -116,7 +122,8 @@ pub record IsBrokenPair (Answers : List ℕ → List ℕ → Outcome → List �
   pub written : IsPairPartWritten Answers left right out_before out_after
 
 -- A report was read, and the text for its bytes was written, with this answer.
-pub record IsReportRun {S O : Type 0} (source : Reader S) (sink : Writer O) (Answers : List ℕ → Outcome → List ℕ → Type 0) (answer : Result Outcome RunFault) (reader : BeforeAfter S) (out : BeforeAfter O) : Type 0 where
+pub record IsReportRun {S O : Type 0} (source : Reader S) (sink : Writer O) (Answers : List ℕ → Outcome → List ℕ → Type 0) (answer : Result Outcome RunFault)
+    (reader : BeforeAfter S) (out : BeforeAfter O) : Type 0 where
   -- What an outcome means.
   pub whole : IfOk answer (λ outcome. IsWholeReport Answers most_bytes outcome (source.remaining reader.before) (source.remaining reader.after)
       (sink.contents out.before) (sink.contents out.after))
@@ -133,7 +140,8 @@ pub record IsReportRun {S O : Type 0} (source : Reader S) (sink : Writer O) (Ans
   pub calls : source.reads reader.after ≤ source.reads reader.before + most_reads
 
 -- Two reports were read, and the text for their bytes was written, with this answer.
-pub record IsPairRun {S T O : Type 0} (lefts : Reader S) (rights : Reader T) (sink : Writer O) (Answers : List ℕ → List ℕ → Outcome → List ℕ → Type 0) (answer : Result Outcome RunFault) (left : BeforeAfter S) (right : BeforeAfter T) (out : BeforeAfter O) : Type 0 where
+pub record IsPairRun {S T O : Type 0} (lefts : Reader S) (rights : Reader T) (sink : Writer O) (Answers : List ℕ → List ℕ → Outcome → List ℕ → Type 0)
+    (answer : Result Outcome RunFault) (left : BeforeAfter S) (right : BeforeAfter T) (out : BeforeAfter O) : Type 0 where
   -- What an outcome means.
   pub whole : IfOk answer (λ outcome. IsWholePair Answers most_bytes outcome (lefts.remaining left.before) (lefts.remaining left.after)
       (rights.remaining right.before) (rights.remaining right.after) (sink.contents out.before) (sink.contents out.after))

@@ -3,7 +3,8 @@ use Rattle.std.specs.Prelude.{ℕ, ◌≡◌, ◌⊎◌, List, codes}
 use Rattle.serde_json.specs.Data.{Data}
 use Rattle.serde_json.specs.Written.{compact_text}
 use Rattle.erd_meaning.specs.Keys.{Preference}
-use Rattle.erd_shown.specs.BallotDifferences.{AreBallotDifferences, StyleFound, styles_data}
+use Rattle.erd_shown.specs.BallotDifferences.{AreBallotDifferences, StyleFound}
+use Rattle.erd_shown.specs.BallotLines.{AreStylesText}
 use Rattle.erd_shown.specs.Ballots.{ballot_in}
 use Rattle.erd_shown.specs.Heads.{heads_data}
 use Rattle.erd_shown.specs.RowData.{IsBesideText}
@@ -48,23 +49,28 @@ IsBallotsData asked π bytes NotJson text = IsRefusalText π bytes NotJson text
 -- ---- the ballots of two reports
 
 -- Both inputs are accepted reports, and this outcome and this text tell of their trees.
-pub record AreBothTold (Tells : Data → Data → Outcome → List ℕ → Type 0) (π : Preference) (left right : List ℕ) (outcome : Outcome) (text : List ℕ) : Type 0 where
+pub record AreBothTold (Tells : Data → Data → Outcome → List ℕ → Type 0) (π : Preference) (left right : List ℕ) (outcome : Outcome)
+    (text : List ℕ) : Type 0 where
   pub left_tree : Data
   pub right_tree : Data
   pub left_accepted : IsAcceptedReport π left left_tree
   pub right_accepted : IsAcceptedReport π right right_tree
   pub tells : Tells left_tree right_tree outcome text
 
+-- What a text says of two trees and styles.
+abbrev pub Said : Type 1
+Said = Preference → Data → Data → List StyleFound → List ℕ → Type 0
+
 -- The text says which ballots are not the same in two reports. The outcome is good if and only if all are the same.
-pub record TellsDiffering (said : List StyleFound → List ℕ) (π : Preference) (t u : Data) (outcome : Outcome) (text : List ℕ) : Type 0 where
+pub record TellsDiffering (IsSaid : Said) (π : Preference) (t u : Data) (outcome : Outcome) (text : List ℕ) : Type 0 where
   pub found : List StyleFound
   pub differ : AreBallotDifferences π t π u found
   pub ends : outcome ≡ listing_outcome found
-  pub written : text ≡ said found
+  pub said : IsSaid π t u found text
 
--- The compact text of the array of these styles.
-abbrev pub differing_text : List StyleFound → List ℕ
-differing_text found = compact_text (styles_data found)
+-- The text tells these styles as JSON, under one preference.
+abbrev pub IsToldByJson : Said
+IsToldByJson π t u found text = AreStylesText π t π u found text
 
 -- The text tells the ballots of the styles at these positions beside each other, whether they differ or not.
 abbrev pub TellsBeside : ℕ → ℕ → Preference → Data → Data → Outcome → List ℕ → Type 0
@@ -86,7 +92,7 @@ IsPairData Tells π left right outcome text =
 
 -- Comparing the ballots of the two inputs ends with this outcome and answers this text.
 abbrev pub IsBallotDifferencesData : Preference → List ℕ → List ℕ → Outcome → List ℕ → Type 0
-IsBallotDifferencesData π left right outcome text = IsPairData (TellsDiffering differing_text π) π left right outcome text
+IsBallotDifferencesData π left right outcome text = IsPairData (TellsDiffering IsToldByJson π) π left right outcome text
 
 -- Telling the ballots of the styles at these positions beside each other ends with this outcome and answers this text.
 abbrev pub IsBallotsBesideData : ℕ → ℕ → Preference → List ℕ → List ℕ → Outcome → List ℕ → Type 0

@@ -31,7 +31,8 @@ after_name r ms = ms
 -- The JSON object of a fault. Its members are `name` for a missing member, `place`, and `reason` with the number of the
 -- reason.
 abbrev pub fault_data : Fault → Data
-fault_data f = object (after_name f.reason (member (codes "place") (place_data f.place) (member (codes "reason") (number (unsigned (reason_number f.reason))) no_members)))
+fault_data f =
+    object (after_name f.reason (member (codes "place") (place_data f.place) (member (codes "reason") (number (unsigned (reason_number f.reason))) no_members)))
 
 -- A list of faults as the array of its faults, in the same order.
 abbrev pub faults_data : List Fault → Data

@@ -85,5 +85,6 @@ lines_of_side side lines = map (λ line. side ++ line) lines
 abbrev pub IsCompareText : Preference → List ℕ → List ℕ → List ℕ → Type 0
 IsCompareText π left right x =
     ((lines : List (List ℕ)) × IsRefusal π left lines × (x ≡ text_of_lines (lines_of_side (codes "left: ") lines)))
-    ⊎ (((lines : List (List ℕ)) × (t : Data) × IsAcceptedReport π left t × IsRefusal π right lines × (x ≡ text_of_lines (lines_of_side (codes "right: ") lines)))
+    ⊎ (((lines : List (List ℕ)) × (t : Data) × IsAcceptedReport π left t × IsRefusal π right lines
+    × (x ≡ text_of_lines (lines_of_side (codes "right: ") lines)))
     ⊎ ((found : Option Difference) × IsComparison π left right found × (x ≡ text_of_lines (comparison_line found ∷ []))))

@@ -1,5 +1,4 @@
--- What a run of each engine does to its devices: all that `run_check`, `run_canon` and `run_compare` promise, one record for
--- each.
+-- What a run of each engine does to its devices, one record for each.
 use Rattle.std.specs.Prelude.{◌≡◌, ◌≢◌, ◌↔◌, ◌⊎◌, ◌+◌, ◌<◌, ◌≤◌, true, Result, Err, IfOk, IfErr, IsErrOf, OnOk}
 use Rattle.std.specs.Io.KnownBytes.{IsAtEnd}
 use Rattle.erd_canon.specs.Devices.{BeforeAfter, Reader, Writer}
@@ -13,7 +12,8 @@ use Rattle.erd_canon.specs.Writing.{IsBrokenCheck, IsBrokenCompare, IsBrokenRun}
 use Rattle.erd_meaning.specs.Keys.{Preference}
 
 -- A report was checked under the preference, with this answer.
-pub record IsCheckRun {S O : Type 0} (source : Reader S) (sink : Writer O) (π : Preference) (answer : Result Outcome RunFault) (reader : BeforeAfter S) (out : BeforeAfter O) : Type 0 where
+pub record IsCheckRun {S O : Type 0} (source : Reader S) (sink : Writer O) (π : Preference) (answer : Result Outcome RunFault) (reader : BeforeAfter S)
+    (out : BeforeAfter O) : Type 0 where
   -- What an outcome means.
   pub whole : IfOk answer (λ outcome. IsWholeCheck π most_bytes outcome (source.remaining reader.before) (source.remaining reader.after)
       (sink.contents out.before) (sink.contents out.after))
@@ -32,7 +32,8 @@ pub record IsCheckRun {S O : Type 0} (source : Reader S) (sink : Writer O) (π :
   pub calls : source.reads reader.after ≤ source.reads reader.before + most_reads
 
 -- A report was canonicalised under the preference, with this answer.
-pub record IsCanonRun {S O E : Type 0} (source : Reader S) (sink : Writer O) (errors : Writer E) (π : Preference) (answer : Result Outcome RunFault) (reader : BeforeAfter S) (out : BeforeAfter O) (err : BeforeAfter E) : Type 0 where
+pub record IsCanonRun {S O E : Type 0} (source : Reader S) (sink : Writer O) (errors : Writer E) (π : Preference) (answer : Result Outcome RunFault)
+    (reader : BeforeAfter S) (out : BeforeAfter O) (err : BeforeAfter E) : Type 0 where
   -- What an outcome means.
   pub whole : IfOk answer (λ outcome. IsWholeRun π most_bytes outcome (source.remaining reader.before) (source.remaining reader.after)
       (sink.contents out.before) (sink.contents out.after) (errors.contents err.before) (errors.contents err.after))
@@ -62,7 +63,8 @@ pub record IsCanonRun {S O E : Type 0} (source : Reader S) (sink : Writer O) (er
   pub calls : source.reads reader.after ≤ source.reads reader.before + most_reads
 
 -- Two reports were compared under the preference, with this answer.
-pub record IsCompareRun {S T O : Type 0} (lefts : Reader S) (rights : Reader T) (sink : Writer O) (π : Preference) (answer : Result Outcome RunFault) (left : BeforeAfter S) (right : BeforeAfter T) (out : BeforeAfter O) : Type 0 where
+pub record IsCompareRun {S T O : Type 0} (lefts : Reader S) (rights : Reader T) (sink : Writer O) (π : Preference) (answer : Result Outcome RunFault)
+    (left : BeforeAfter S) (right : BeforeAfter T) (out : BeforeAfter O) : Type 0 where
   -- What an outcome means.
   pub whole : IfOk answer (λ outcome. IsWholeCompare π most_bytes outcome (lefts.remaining left.before) (lefts.remaining left.after)
       (rights.remaining right.before) (rights.remaining right.after) (sink.contents out.before) (sink.contents out.after))

@@ -2,7 +2,9 @@
 use Rattle.std.specs.Prelude.{◌≢◌, ◌++◌, ℕ, List, [], ◌∷◌, Option, Some, None, codes}
 use Rattle.erd_canon.specs.Options.{preference_words, steps_words}
 use Rattle.erd_canon.specs.declared.commands.request.Request.{Request}
-use Rattle.erd_canon.specs.declared.commands.request.Request.TheVariants.{Filter, Check, Canon, Compare, CheckData, CompareData, Differences, DifferencesData, Prepare, PrepareList, PrepareReport, Ballots, BallotsData, BallotDifferences, BallotDifferencesData}
+use Rattle.erd_canon.specs.declared.commands.request.Request.TheVariants.{Filter, Check, Canon, Compare, CheckData, CompareData, Differences, DifferencesData}
+use Rattle.erd_canon.specs.declared.commands.request.Request.TheVariants.{Prepare, PrepareList, PrepareReport, Ballots, BallotsData, BallotDifferences}
+use Rattle.erd_canon.specs.declared.commands.request.Request.TheVariants.{BallotDifferencesData}
 
 -- The words after the program's name that make this request.
 abbrev pub words_of : Request → List (List ℕ)

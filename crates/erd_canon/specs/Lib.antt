@@ -18,6 +18,7 @@ pub mod Writing  -- what a writer holds after a failed write
 pub mod Devices  -- what contracts know of readers and writers
 pub mod Engines  -- all that a run of each engine does to its devices
 pub mod Answering  -- what a run of an engine does to its devices that answers with one text
+pub mod Remedies  -- what may be done about the faults that are left in a prepared report
 pub mod Preparing  -- what the engines that prepare a report write, and what a run of them does to its devices
 pub mod BallotAnswering  -- what the engines for ballots write
 pub mod AskedCommands  -- what the engine for each command on one report, and on two reports, answers

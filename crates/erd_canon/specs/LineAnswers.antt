@@ -8,7 +8,9 @@ use Rattle.erd_canon.specs.ReadLines.{IsLineRead, IsReadExactly}
 use Rattle.erd_canon.specs.declared.commands.request.LineFault.{LineFault}
 use Rattle.erd_canon.specs.declared.commands.request.LineFault.TheVariants.{Help, Usage, Memory}
 use Rattle.erd_canon.specs.declared.commands.request.Request.{Request}
-use Rattle.erd_canon.specs.declared.commands.request.Request.TheVariants.{Filter, Check, Canon, Compare, CheckData, CompareData, Differences, DifferencesData, Prepare, PrepareList, PrepareReport, Ballots, BallotsData, BallotDifferences, BallotDifferencesData}
+use Rattle.erd_canon.specs.declared.commands.request.Request.TheVariants.{Filter, Check, Canon, Compare, CheckData, CompareData, Differences, DifferencesData}
+use Rattle.erd_canon.specs.declared.commands.request.Request.TheVariants.{Prepare, PrepareList, PrepareReport, Ballots, BallotsData, BallotDifferences}
+use Rattle.erd_canon.specs.declared.commands.request.Request.TheVariants.{BallotDifferencesData}
 
 -- The JSON object of a command. Its members are `command`, `files` with the names of the files, and each option.
 abbrev pub command_data : List ℕ → List (List ℕ) → Bool → Option (List ℕ) → Data
@@ -18,7 +20,8 @@ command_data command files json prefer =
 -- The JSON object of a preparation. It has members for its own options too.
 abbrev pub preparation_data : Bool → Bool → List ℕ → Option (List ℕ) → Option (List ℕ) → Data
 preparation_data list report file steps prefer =
-    object (member (codes "command") (string (codes "prepare")) (member (codes "files") (array (items_of (map string (file ∷ [])))) (preparation_members list report steps prefer)))
+    object (member (codes "command") (string (codes "prepare"))
+    (member (codes "files") (array (items_of (map string (file ∷ [])))) (preparation_members list report steps prefer)))
 
 -- The JSON object of a request. The command without a word is `filter`, and the left file of a comparison is the first.
 abbrev pub request_data : Request → Data

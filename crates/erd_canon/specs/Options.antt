@@ -1,4 +1,4 @@
--- The options of a command: the words that state them, what is read of them, and their members in the JSON of a request.
+-- The options of a command: their words, what is read of them, and their members in JSON.
 use Rattle.std.specs.Prelude.{ℕ, Bool, false, List, [], ◌∷◌, Option, Some, None, codes, bytes_eq, unwrap_or}
 use Rattle.clap.specs.Words.{Row, first_of}
 use Rattle.serde_json.specs.Data.{Data, Members, null, boolean, string, no_members, member}

@@ -92,7 +92,8 @@ abbrev pub IsListPiece : Preference → List ℕ → List ℕ → Piece → Outc
 IsListPiece π left right piece outcome told value =
     IsSidePiece π (codes "left") left piece outcome told value
     ⊎ ((IsSomeReport π left × IsSidePiece π (codes "right") right piece outcome told value)
-    ⊎ ((found : List DetailedDifference) × AreDetailed π left right piece.first piece.enough_bytes found × (outcome ≡ listing_outcome found) × IsPieceData detailed_data piece found told value))
+    ⊎ ((found : List DetailedDifference) × AreDetailed π left right piece.first piece.enough_bytes found × (outcome ≡ listing_outcome found)
+    × IsPieceData detailed_data piece found told value))
 
 -- The text is that of a value that meets `Answers`, with what is told of its list.
 pub record IsPieceText (Answers : Told → Data → Type 0) (told : Told) (text : List ℕ) : Type 0 where
@@ -133,7 +134,8 @@ abbrev pub IsCompareLines : Preference → List ℕ → List ℕ → Piece → O
 IsCompareLines π left right piece outcome told text =
     IsRefusalLines π (codes "left: ") left piece outcome told text
     ⊎ ((IsSomeReport π left × IsRefusalLines π (codes "right: ") right piece outcome told text)
-    ⊎ ((found : Option Difference) × IsComparison π left right found × (outcome ≡ comparison_outcome found) × (text ≡ text_of_lines (comparison_line found ∷ [])) × TellsNone told))
+    ⊎ ((found : Option Difference) × IsComparison π left right found × (outcome ≡ comparison_outcome found)
+    × (text ≡ text_of_lines (comparison_line found ∷ [])) × TellsNone told))
 
 -- The text has a line for each difference of a piece, or the line `same` if there are none.
 abbrev pub IsFoundLines : Piece → List Difference → Told → List ℕ → Type 0

@@ -1,9 +1,11 @@
--- What the engines that prepare a report write for given bytes, and what a run of them does to its devices. All of this is the
--- program's own.
-use Rattle.std.specs.Prelude.{◌≡◌, ◌≢◌, ◌↔◌, ◌⊎◌, ◌+◌, ◌++◌, ◌<◌, ◌≤◌, ℕ, zero, suc, List, [], ◌∷◌, Option, true, Result, Err, IfOk, IfErr, IsErrOf, OnOk, codes, decimal, length, unwrap_or}
+-- What the engines that prepare a report write, and do to their devices. All of this is the program's own.
+use Rattle.std.specs.Prelude.{◌≡◌, ◌≢◌, ◌↔◌, ◌⊎◌, ◌+◌, ◌++◌, ◌<◌, ◌≤◌, ℕ, zero, suc, List, [], ◌∷◌, Option, true, Result, Err, IfOk, IfErr, IsErrOf, OnOk}
+use Rattle.std.specs.Prelude.{codes, decimal, length, map, unwrap_or}
 use Rattle.std.specs.List.{flat_map}
 use Rattle.std.specs.Io.KnownBytes.{Appends}
 use Rattle.serde_json.specs.Data.{Data}
+use Rattle.erd_tables.specs.Faults.{fault_line}
+use Rattle.erd_tables.specs.declared.fault.Fault.{Fault}
 use Rattle.erd_meaning.specs.Keys.{Preference}
 use Rattle.erd_prepare.specs.Preparations.{IsPrepared}
 use Rattle.erd_prepare.specs.StepWords.{group_of, name_of_group, name_of_step, steps_chosen}
@@ -16,10 +18,11 @@ use Rattle.erd_prepare.specs.declared.step_name.StepName.{StepName}
 use Rattle.erd_prepare.specs.declared.step_name.TheConstants.{STEPS}
 use Rattle.erd_canon.specs.Bytes.{IsNotJson, IsTreeOf}
 use Rattle.erd_canon.specs.Devices.{BeforeAfter, Reader, Writer}
-use Rattle.erd_canon.specs.EngineTexts.{IsRefusal, text_of_lines}
+use Rattle.erd_canon.specs.EngineTexts.{IsRefusedReport, text_of_lines}
 use Rattle.erd_canon.specs.Limits.{most_bytes, most_reads}
 use Rattle.erd_canon.specs.Reading.{Exceeds, IsReadWhole}
 use Rattle.erd_canon.specs.Refused.{IsSomeReport}
+use Rattle.erd_canon.specs.Remedies.{remedy_lines}
 use Rattle.erd_canon.specs.Writing.{IsPartWritten}
 use Rattle.erd_canon.specs.declared.engines.outcome.Outcome.{Outcome}
 use Rattle.erd_canon.specs.declared.engines.outcome.Outcome.TheVariants.{Bad, Good, NotJson}
@@ -45,10 +48,17 @@ done_lines step = count_lines (name_of_step step.step) (length step.changes.item
 abbrev pub file_lines : PreparedBytes → List (List ℕ)
 file_lines file = count_lines (codes "numbers") (length file.numbers.items) 0 ++ flat_map done_lines file.steps.items
 
--- The prepared report is judged with this outcome: it is accepted, and there are no lines, or the lines say why it is refused.
+-- The lines say why the prepared report is refused: `not JSON`, or one line for each fault, and then what may be done about them.
+abbrev pub IsRefusalWithRemedies : Preference → List ℕ → List (List ℕ) → Type 0
+IsRefusalWithRemedies π bytes lines =
+    (IsNotJson bytes × (lines ≡ codes "not JSON" ∷ []))
+    ⊎ ((faults : List Fault) × IsRefusedReport π bytes faults × (lines ≡ map fault_line faults ++ remedy_lines faults))
+
+-- The prepared report is judged with this outcome: it is accepted, and there are no lines, or the lines say why it is refused,
+-- and what may be done about that.
 abbrev pub IsJudged : Preference → List ℕ → Outcome → List (List ℕ) → Type 0
 IsJudged π bytes Good lines = IsSomeReport π bytes × (lines ≡ [])
-IsJudged π bytes Bad lines = IsRefusal π bytes lines
+IsJudged π bytes Bad lines = IsRefusalWithRemedies π bytes lines
 IsJudged π bytes NotJson lines = ⊥
 
 -- The prepared file ends the run with this outcome and has these texts. The output has the prepared report with no line end. The
@@ -65,10 +75,33 @@ pub record AreNotJsonTexts (outcome : Outcome) (out err : List ℕ) : Type 0 whe
   pub output : out ≡ []
   pub errors : err ≡ text_of_lines (codes "not JSON" ∷ [])
 
--- Preparing the bytes by these steps ends with this outcome and writes these texts, one to its output and one to its errors.
-abbrev pub IsPreparedAs : Preference → List StepName → List ℕ → Outcome → List ℕ → List ℕ → Type 0
-IsPreparedAs π chosen bytes outcome out err =
+-- A byte order mark: U+FEFF in UTF-8.
+abbrev pub byte_order_mark : List ℕ
+byte_order_mark = 239 ∷ 187 ∷ 191 ∷ []
+
+-- The bytes begin with a byte order mark. The outcome and the texts are those of what follows it, with a line for it before the
+-- errors.
+pub record AreMarkedTexts (Answers : List ℕ → Outcome → List ℕ → List ℕ → Type 0) (bytes : List ℕ) (outcome : Outcome) (out err : List ℕ) : Type 0 where
+  pub rest : List ℕ
+  pub rest_err : List ℕ
+  pub marked : bytes ≡ byte_order_mark ++ rest
+  pub answers : Answers rest outcome out rest_err
+  pub errors : err ≡ text_of_lines (codes "byte order mark: taken off" ∷ []) ++ rest_err
+
+-- The outcome and the texts are those of the bytes, or of what follows a byte order mark if they begin with one.
+abbrev pub IsBehindMark : (List ℕ → Outcome → List ℕ → List ℕ → Type 0) → List ℕ → Outcome → List ℕ → List ℕ → Type 0
+IsBehindMark Answers bytes outcome out err =
+    (((rest : List ℕ) → bytes ≢ byte_order_mark ++ rest) × Answers bytes outcome out err) ⊎ AreMarkedTexts Answers bytes outcome out err
+
+-- Preparing bytes with no mark before them by these steps ends with this outcome and writes these texts, one to its output and
+-- one to its errors.
+abbrev pub IsUnmarkedPrepared : Preference → List StepName → List ℕ → Outcome → List ℕ → List ℕ → Type 0
+IsUnmarkedPrepared π chosen bytes outcome out err =
     (IsNotJson bytes × AreNotJsonTexts outcome out err) ⊎ ((file : PreparedBytes) × IsPrepared bytes chosen Untold file × AreFileTexts π file outcome out err)
+
+-- Preparing the bytes by these steps ends with this outcome and writes these texts.
+abbrev pub IsPreparedAs : Preference → List StepName → List ℕ → Outcome → List ℕ → List ℕ → Type 0
+IsPreparedAs π chosen = IsBehindMark (IsUnmarkedPrepared π chosen)
 
 -- The name of a step with that of its group.
 abbrev pub grouped_text : StepName → List ℕ
@@ -92,10 +125,14 @@ pub record AreTriedTexts (given : Data) (outcome : Outcome) (out err : List ℕ)
   pub output : out ≡ text_of_lines lines
   pub errors : err ≡ []
 
+-- Listing the steps for bytes with no mark before them ends with this outcome and writes these texts.
+abbrev pub AreUnmarkedSteps : List ℕ → Outcome → List ℕ → List ℕ → Type 0
+AreUnmarkedSteps bytes outcome out err =
+    (IsNotJson bytes × AreNotJsonTexts outcome out err) ⊎ ((given : Data) × IsTreeOf bytes given × AreTriedTexts given outcome out err)
+
 -- Listing the steps for the bytes ends with this outcome and writes these texts.
 abbrev pub AreStepsListed : List ℕ → Outcome → List ℕ → List ℕ → Type 0
-AreStepsListed bytes outcome out err =
-    (IsNotJson bytes × AreNotJsonTexts outcome out err) ⊎ ((given : Data) × IsTreeOf bytes given × AreTriedTexts given outcome out err)
+AreStepsListed = IsBehindMark AreUnmarkedSteps
 
 -- Telling what a preparation did ends with this outcome and has these texts: the output has it as a line of JSON.
 pub record AreToldTexts (file : PreparedBytes) (outcome : Outcome) (out err : List ℕ) : Type 0 where
@@ -103,13 +140,18 @@ pub record AreToldTexts (file : PreparedBytes) (outcome : Outcome) (out err : Li
   pub output : out ≡ file.told.items ++ 10 ∷ []
   pub errors : err ≡ []
 
--- Telling what these steps do on the bytes ends with this outcome and writes these texts.
-abbrev pub IsPreparationTold : List StepName → List ℕ → Outcome → List ℕ → List ℕ → Type 0
-IsPreparationTold chosen bytes outcome out err =
+-- Telling what these steps do on bytes with no mark before them ends with this outcome and writes these texts.
+abbrev pub IsUnmarkedTold : List StepName → List ℕ → Outcome → List ℕ → List ℕ → Type 0
+IsUnmarkedTold chosen bytes outcome out err =
     (IsNotJson bytes × AreNotJsonTexts outcome out err) ⊎ ((file : PreparedBytes) × IsPrepared bytes chosen Told file × AreToldTexts file outcome out err)
 
+-- Telling what these steps do on the bytes ends with this outcome and writes these texts.
+abbrev pub IsPreparationTold : List StepName → List ℕ → Outcome → List ℕ → List ℕ → Type 0
+IsPreparationTold chosen = IsBehindMark (IsUnmarkedTold chosen)
+
 -- The run on the input ends with this outcome. If the bytes of the writers are known, its texts were written, and nothing else.
-pub record AreTextsWritten (Answers : List ℕ → Outcome → List ℕ → List ℕ → Type 0) (bytes : List ℕ) (outcome : Outcome) (out_before out_after err_before err_after : Option (List ℕ)) : Type 0 where
+pub record AreTextsWritten (Answers : List ℕ → Outcome → List ℕ → List ℕ → Type 0) (bytes : List ℕ) (outcome : Outcome)
+    (out_before out_after err_before err_after : Option (List ℕ)) : Type 0 where
   pub out_text : List ℕ
   pub err_text : List ℕ
   pub answers : Answers bytes outcome out_text err_text
@@ -118,7 +160,8 @@ pub record AreTextsWritten (Answers : List ℕ → Outcome → List ℕ → List
 
 -- The run on the input has these texts. If the bytes of the writers are known, a first part of its text was written to each, and
 -- nothing else.
-pub record AreTextsPartWritten (Answers : List ℕ → Outcome → List ℕ → List ℕ → Type 0) (bytes : List ℕ) (out_before out_after err_before err_after : Option (List ℕ)) : Type 0 where
+pub record AreTextsPartWritten (Answers : List ℕ → Outcome → List ℕ → List ℕ → Type 0) (bytes : List ℕ)
+    (out_before out_after err_before err_after : Option (List ℕ)) : Type 0 where
   pub outcome : Outcome
   pub out_text : List ℕ
   pub err_text : List ℕ
@@ -136,27 +179,31 @@ pub record AreTextsWith (Answers : List ℕ → Outcome → List ℕ → List �
 
 -- If the bytes of the devices are known: the reader was read to its end within the limit, and the texts for its bytes were
 -- written, and nothing else.
-pub record AreWholeTexts (Answers : List ℕ → Outcome → List ℕ → List ℕ → Type 0) (limit : ℕ) (outcome : Outcome) (before after out_before out_after err_before err_after : Option (List ℕ)) : Type 0 where
+pub record AreWholeTexts (Answers : List ℕ → Outcome → List ℕ → List ℕ → Type 0) (limit : ℕ) (outcome : Outcome)
+    (before after out_before out_after err_before err_after : Option (List ℕ)) : Type 0 where
   pub input : List ℕ
   pub whole : IsReadWhole limit before after input
   pub written : AreTextsWritten Answers input outcome out_before out_after err_before err_after
 
 -- If the bytes of the devices are known: the reader was read to its end within the limit, and a first part of each text for its
 -- bytes was written, and nothing else.
-pub record AreBrokenTexts (Answers : List ℕ → Outcome → List ℕ → List ℕ → Type 0) (limit : ℕ) (before after out_before out_after err_before err_after : Option (List ℕ)) : Type 0 where
+pub record AreBrokenTexts (Answers : List ℕ → Outcome → List ℕ → List ℕ → Type 0) (limit : ℕ)
+    (before after out_before out_after err_before err_after : Option (List ℕ)) : Type 0 where
   pub input : List ℕ
   pub whole : IsReadWhole limit before after input
   pub written : AreTextsPartWritten Answers input out_before out_after err_before err_after
 
 -- If the bytes of the reader are known: it was read to its end within the limit, and the texts for its bytes are such that this
 -- holds of them.
-pub record IsReadWith (Answers : List ℕ → Outcome → List ℕ → List ℕ → Type 0) (Holds : List ℕ → List ℕ → Type 0) (limit : ℕ) (before after : Option (List ℕ)) : Type 0 where
+pub record IsReadWith (Answers : List ℕ → Outcome → List ℕ → List ℕ → Type 0) (Holds : List ℕ → List ℕ → Type 0) (limit : ℕ)
+    (before after : Option (List ℕ)) : Type 0 where
   pub input : List ℕ
   pub whole : IsReadWhole limit before after input
   pub texts : AreTextsWith Answers Holds input
 
 -- A report was read, and the two texts for its bytes were written, with this answer.
-pub record IsTextsRun {S O E : Type 0} (source : Reader S) (sink : Writer O) (errors : Writer E) (Answers : List ℕ → Outcome → List ℕ → List ℕ → Type 0) (answer : Result Outcome RunFault) (reader : BeforeAfter S) (out : BeforeAfter O) (err : BeforeAfter E) : Type 0 where
+pub record IsTextsRun {S O E : Type 0} (source : Reader S) (sink : Writer O) (errors : Writer E) (Answers : List ℕ → Outcome → List ℕ → List ℕ → Type 0)
+    (answer : Result Outcome RunFault) (reader : BeforeAfter S) (out : BeforeAfter O) (err : BeforeAfter E) : Type 0 where
   -- What an outcome means.
   pub whole : IfOk answer (λ outcome. AreWholeTexts Answers most_bytes outcome (source.remaining reader.before) (source.remaining reader.after)
       (sink.contents out.before) (sink.contents out.after) (errors.contents err.before) (errors.contents err.after))

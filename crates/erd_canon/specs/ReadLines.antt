@@ -1,12 +1,15 @@
--- What any words of a command line are read as, by the rules of the program in `clap`'s grammar.
-use Rattle.std.specs.Prelude.{◌≡◌, ◌≢◌, true, false, ℕ, Bool, List, [], ◌∷◌, Option, Some, None, Result, Ok, Err, MatchResult, codes, bytes_eq, if◌then◌else◌, unwrap_or}
+-- What any words of a command line are read as, by `clap`'s rules.
+use Rattle.std.specs.Prelude.{◌≡◌, ◌≢◌, true, false, ℕ, Bool, List, [], ◌∷◌, Option, Some, None, Result, Ok, Err, MatchResult, codes, bytes_eq, if◌then◌else◌}
+use Rattle.std.specs.Prelude.{unwrap_or}
 use Rattle.clap.specs.Words.{IsAmong, Row, fault_of, first_of, subcommand_of, takes}
 use Rattle.clap.specs.declared.error.kind.ErrorKind.{ErrorKind}
 use Rattle.clap.specs.declared.error.kind.ErrorKind.TheVariants.{DisplayHelp, OutOfMemory}
 use Rattle.erd_canon.specs.declared.commands.request.LineFault.{LineFault}
 use Rattle.erd_canon.specs.declared.commands.request.LineFault.TheVariants.{Help, Usage, Memory}
 use Rattle.erd_canon.specs.declared.commands.request.Request.{Request}
-use Rattle.erd_canon.specs.declared.commands.request.Request.TheVariants.{Filter, Check, Canon, Compare, CheckData, CompareData, Differences, DifferencesData, Prepare, PrepareList, PrepareReport, Ballots, BallotsData, BallotDifferences, BallotDifferencesData}
+use Rattle.erd_canon.specs.declared.commands.request.Request.TheVariants.{Filter, Check, Canon, Compare, CheckData, CompareData, Differences, DifferencesData}
+use Rattle.erd_canon.specs.declared.commands.request.Request.TheVariants.{Prepare, PrepareList, PrepareReport, Ballots, BallotsData, BallotDifferences}
+use Rattle.erd_canon.specs.declared.commands.request.Request.TheVariants.{BallotDifferencesData}
 use Rattle.erd_canon.specs.ExactLines.{HasPlainWords, words_of}
 use Rattle.erd_canon.specs.Options.{has_flag, preference_in, steps_in}
 use Rattle.erd_canon.specs.Subcommands.{program}
@@ -56,7 +59,8 @@ ballots_in rows = ballots_request (has_flag (codes "json") rows) (word_for (code
 
 -- The request of the subcommand `prepare`, for what was given for its arguments.
 abbrev pub preparation_in : List Row → Request
-preparation_in rows = prepare_request (has_flag (codes "list") rows) (has_flag (codes "report") rows) (word_for (codes "FILE") rows) (steps_in rows) (preference_in rows)
+preparation_in rows = prepare_request (has_flag (codes "list") rows) (has_flag (codes "report") rows) (word_for (codes "FILE") rows)
+    (steps_in rows) (preference_in rows)
 
 -- The request of the subcommand with this name, for what was given for its arguments.
 abbrev pub subcommand_request : List ℕ → List Row → Request

@@ -7,7 +7,8 @@ use Rattle.erd_compare.specs.declared.difference.Difference.{Difference}
 use Rattle.erd_canon.specs.declared.engines.outcome.Outcome.{Outcome}
 use Rattle.erd_canon.specs.declared.engines.outcome.Outcome.TheVariants.{Good, Bad, NotJson}
 use Rattle.erd_canon.specs.Bytes.{IsNotJson, IsCanonicalBytes}
-use Rattle.erd_canon.specs.EngineTexts.{IsCanonicalErrors, IsCanonicalOutput, IsCheckText, IsCompareText, IsComparison, IsRefusal, IsRefusedReport, comparison_line, lines_of_side, text_of_lines}
+use Rattle.erd_canon.specs.EngineTexts.{IsCanonicalErrors, IsCanonicalOutput, IsCheckText, IsCompareText, IsComparison, IsRefusal, IsRefusedReport}
+use Rattle.erd_canon.specs.EngineTexts.{comparison_line, lines_of_side, text_of_lines}
 use Rattle.erd_canon.specs.Reading.{IsReadWhole}
 use Rattle.erd_canon.specs.Refused.{IsSomeReport}
 use Rattle.erd_meaning.specs.Keys.{Preference}
@@ -48,7 +49,8 @@ abbrev pub IsCompared : Preference → List ℕ → List ℕ → Outcome → Lis
 IsCompared π left right outcome out =
     IsSideRefused π (codes "left: ") left outcome out
     ⊎ ((IsSomeReport π left × IsSideRefused π (codes "right: ") right outcome out)
-    ⊎ ((found : Option Difference) × IsComparison π left right found × (outcome ≡ comparison_outcome found) × (out ≡ text_of_lines (comparison_line found ∷ []))))
+    ⊎ ((found : Option Difference) × IsComparison π left right found × (outcome ≡ comparison_outcome found)
+    × (out ≡ text_of_lines (comparison_line found ∷ []))))
 
 -- Checking the input ends with this outcome. If the bytes of the writer are known, what checking writes was written, and
 -- nothing else.
@@ -102,7 +104,8 @@ pub record IsRefusedInput (π : Preference) (limit : ℕ) (before after : Option
 
 -- What is known of a comparison with this outcome. If the bytes of the devices are known: both readers were read to their ends
 -- within the limit, and comparing their bytes ends with this outcome. What comparing writes was written, and nothing else.
-pub record IsWholeCompare (π : Preference) (limit : ℕ) (outcome : Outcome) (left_before left_after right_before right_after out_before out_after : Option (List ℕ)) : Type 0 where
+pub record IsWholeCompare (π : Preference) (limit : ℕ) (outcome : Outcome)
+    (left_before left_after right_before right_after out_before out_after : Option (List ℕ)) : Type 0 where
   pub left : List ℕ
   pub right : List ℕ
   pub left_whole : IsReadWhole limit left_before left_after left

@@ -70,7 +70,8 @@ ballots_subcommand = with_rule (with_rule (answering (codes "ballots")) (file_ru
 
 -- `prepare FILE`
 abbrev pub prepare_subcommand : App
-prepare_subcommand = with_rule (with_rule (with_rule (with_rule (with_rule (new_app (codes "prepare")) list_rule) report_rule) steps_rule) prefer_rule) (file_rule (codes "FILE"))
+prepare_subcommand = with_rule (with_rule (with_rule (with_rule (with_rule (new_app (codes "prepare")) list_rule) report_rule) steps_rule) prefer_rule)
+    (file_rule (codes "FILE"))
 
 -- The program and its six subcommands.
 abbrev pub program : App

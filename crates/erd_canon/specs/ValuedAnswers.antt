@@ -7,7 +7,7 @@ use Rattle.erd_meaning.specs.Records.{meaning}
 use Rattle.erd_compare.specs.SelectionDifferences.{AreDetailedDifferences}
 use Rattle.erd_compare.specs.declared.detailed.DetailedDifference.{DetailedDifference}
 use Rattle.erd_canon.specs.BallotAnswers.{AreBothTold}
-use Rattle.erd_canon.specs.DataAnswers.{listing_outcome}
+use Rattle.erd_canon.specs.DataAnswers.{any_size, listing_outcome}
 use Rattle.erd_canon.specs.Pieces.{IsPieceData, IsPieceText, IsSidePiece}
 use Rattle.erd_canon.specs.Refused.{IsSomeReport}
 use Rattle.erd_canon.specs.ValuedData.{valued_data}
@@ -33,3 +33,13 @@ IsValuesPiece π left right piece outcome told text =
     IsPieceText (IsSidePiece π (codes "left") left piece outcome) told text
     ⊎ ((IsSomeReport π left × IsPieceText (IsSidePiece π (codes "right") right piece outcome) told text)
     ⊎ AreBothTold (TellsValues π piece told) π left right outcome text)
+
+-- The piece that leaves out no entry, and whose bounds are the greatest number of a machine word.
+abbrev pub any_piece : Piece
+any_piece = record { first = 0; most = any_size; enough_bytes = any_size }
+
+-- Listing the differences with their values ends with this outcome and answers the whole list: as many entries as there are.
+pub record IsValuesList (π : Preference) (left right : List ℕ) (outcome : Outcome) (text : List ℕ) : Type 0 where
+  pub told : Told
+  pub answers : IsValuesPiece π left right any_piece outcome told text
+  pub whole : told.count ≡ told.all

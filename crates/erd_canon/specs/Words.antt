@@ -25,16 +25,24 @@ pub use Rattle.erd_canon.specs.Reading.{Exceeds}
 pub use Rattle.erd_canon.specs.Run.{comparison_outcome, IsAnswerWritten, IsCheckWritten, IsCompareWritten}
 pub use Rattle.erd_canon.specs.DataValues.{comparison_data, differences_data, fault_data, faults_data, place_data, step_data}
 pub use Rattle.erd_canon.specs.DataAnswers.{listing_outcome, IsCheckedData, IsComparedData, IsDataText, IsListedData}
-pub use Rattle.erd_canon.specs.Pieces.{whole_line, IsCheckLines, IsCheckPiece, IsCompareLines, IsComparePiece, IsFormLines, IsFormPiece, IsFoundLines, IsListLines, IsListPiece, IsPieceData, IsPieceText, TellsNone}
+pub use Rattle.erd_canon.specs.Pieces.{whole_line, IsCheckLines, IsCheckPiece, IsCompareLines, IsComparePiece, IsFormLines, IsFormPiece, IsFoundLines}
+pub use Rattle.erd_canon.specs.Pieces.{IsListLines, IsListPiece, IsPieceData, IsPieceText, TellsNone}
 pub use Rattle.erd_canon.specs.Writing.{IsAnswerPartWritten, IsCheckPartWritten, IsComparePartWritten, IsPartWritten}
 pub use Rattle.erd_canon.specs.Devices.{between, Reader, Writer}
 pub use Rattle.erd_canon.specs.Engines.{IsCanonRun, IsCheckRun, IsCompareRun}
-pub use Rattle.erd_canon.specs.Answering.{listing_lines, IsCheckLine, IsCompareLine, IsListed, IsListLine, IsPairPartWritten, IsPairRun, IsPairWritten, IsReportPartWritten, IsReportRun, IsReportWritten}
-pub use Rattle.erd_canon.specs.Preparing.{asked_steps, count_lines, done_lines, file_lines, grouped_text, tried_lines, AreFileTexts, AreNotJsonTexts, AreStepsListed, AreStepsTried, AreTextsPartWritten, AreTextsWith, AreTextsWritten, AreToldTexts, AreTriedTexts, IsJudged, IsPreparationTold, IsPreparedAs, IsTextsRun}
+pub use Rattle.erd_canon.specs.Answering.{listing_lines, IsCheckLine, IsCompareLine, IsListed, IsListLine, IsPairPartWritten, IsPairRun, IsPairWritten}
+pub use Rattle.erd_canon.specs.Answering.{IsReportPartWritten, IsReportRun, IsReportWritten}
+pub use Rattle.erd_canon.specs.Remedies.{remedies_beyond, remedy_front, remedy_letter, remedy_lines}
+pub use Rattle.erd_canon.specs.Preparing.{asked_steps, byte_order_mark, count_lines, done_lines, file_lines, grouped_text, tried_lines}
+pub use Rattle.erd_canon.specs.Preparing.{AreFileTexts, AreNotJsonTexts, AreStepsListed, AreStepsTried, AreTextsPartWritten, AreTextsWith, AreTextsWritten}
+pub use Rattle.erd_canon.specs.Preparing.{AreToldTexts, AreTriedTexts, AreUnmarkedSteps, IsJudged, IsPreparationTold, IsPreparedAs, IsTextsRun}
+pub use Rattle.erd_canon.specs.Preparing.{IsUnmarkedPrepared, IsUnmarkedTold}
 pub use Rattle.erd_canon.specs.BallotAnswering.{IsBallotDifferenceLines, IsBallotDifferencesLine, IsBallotLines, IsBallotsLine}
 pub use Rattle.erd_canon.specs.Statuses.{fault_status, fault_words, outcome_status}
 pub use Rattle.erd_canon.specs.Options.{has_flag, option_data, preference_in, steps_in}
 pub use Rattle.erd_canon.specs.ExactLines.{words_of, HasPlainWords}
-pub use Rattle.erd_canon.specs.Subcommands.{ballots_subcommand, canon_subcommand, check_subcommand, compare_subcommand, differences_subcommand, file_rule, json_rule, list_rule, optional_file_rule, prefer_rule, prepare_subcommand, program, report_rule, steps_rule}
-pub use Rattle.erd_canon.specs.ReadLines.{ballots_in, ballots_request, check_request, compare_request, differences_request, pair_request, preparation_in, prepare_request, request_in, subcommand_request, word_for, IsFaultFor, IsLineRead}
+pub use Rattle.erd_canon.specs.Subcommands.{ballots_subcommand, canon_subcommand, check_subcommand, compare_subcommand, differences_subcommand, file_rule}
+pub use Rattle.erd_canon.specs.Subcommands.{json_rule, list_rule, optional_file_rule, prefer_rule, prepare_subcommand, program, report_rule, steps_rule}
+pub use Rattle.erd_canon.specs.ReadLines.{ballots_in, ballots_request, check_request, compare_request, differences_request, pair_request, preparation_in}
+pub use Rattle.erd_canon.specs.ReadLines.{prepare_request, request_in, subcommand_request, word_for, IsFaultFor, IsLineRead}
 pub use Rattle.erd_canon.specs.LineAnswers.{command_data, preparation_data, request_data, IsAnswerTo, IsLineData}

@@ -6,7 +6,7 @@ pub(crate) mod check;
 pub(crate) mod compare;
 mod fault_lines;
 mod fault_texts;
-mod fault_values;
+pub(crate) mod fault_values;
 pub(crate) mod laws;
 pub(crate) mod line;
 pub(crate) mod listed;

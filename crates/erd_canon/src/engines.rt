@@ -8,5 +8,6 @@ pub(crate) mod lines;
 pub(crate) mod outcome;
 pub(crate) mod prepare;
 pub(crate) mod prepare_texts;
+pub(crate) mod remedies;
 pub(crate) mod runs;
 pub(crate) mod write_and_flush;

@@ -4,7 +4,9 @@ use Rattle.std.specs.Prelude.{option_copied}
 use Rattle.std.specs.Borrow.{Bor}
 use Rattle.erd_canon.specs.Devices.{BeforeAfter}
 use Rattle.erd_canon.specs.declared.commands.request.Request.{Request}
-use Rattle.erd_canon.specs.declared.commands.request.Request.TheVariants.{Filter, Check, Canon, Compare, CheckData, CompareData, Differences, DifferencesData, Prepare, PrepareList, PrepareReport, Ballots, BallotsData, BallotDifferences, BallotDifferencesData}
+use Rattle.erd_canon.specs.declared.commands.request.Request.TheVariants.{Filter, Check, Canon, Compare, CheckData, CompareData, Differences, DifferencesData}
+use Rattle.erd_canon.specs.declared.commands.request.Request.TheVariants.{Prepare, PrepareList, PrepareReport, Ballots, BallotsData, BallotDifferences}
+use Rattle.erd_canon.specs.declared.commands.request.Request.TheVariants.{BallotDifferencesData}
 use Rattle.erd_program.specs.declared.commands.FileCommand.{FileCommand}
 use Rattle.erd_program.specs.declared.commands.FileCommand.TheVariants as file
 use Rattle.erd_canon.specs.declared.engines.asked.PairCommand.TheVariants as asked_of_two
@@ -58,16 +60,22 @@ module _ {F File I O E : Type 0} (known : Outside F File I O E) (status : ℕ) (
   pub two_done : (request : Request) (l r : Bor (List ℕ)) (c : TwoFilesCommand) (p : Option (Bor (List ℕ))) → IsTaskOf request (task.TwoFiles l r c p)
       → AreFilesOpened known (pair_run_of c (option_copied p)) l.now r.now status world → IsDone known request status world
   two_done (Compare left right prefer) l r c p is h = two_files l.now left r.now right c pair.Compare (option_copied p) prefer is.0 is.1 is.2 is.3 h
-  two_done (CompareData left right prefer) l r c p is h = two_files l.now left r.now right c (pair.Answer asked_of_two.CompareData) (option_copied p) prefer is.0 is.1 is.2 is.3 h
-  two_done (Differences left right prefer) l r c p is h = two_files l.now left r.now right c (pair.Answer asked_of_two.Differences) (option_copied p) prefer is.0 is.1 is.2 is.3 h
-  two_done (DifferencesData left right prefer) l r c p is h = two_files l.now left r.now right c (pair.Answer asked_of_two.DifferencesData) (option_copied p) prefer is.0 is.1 is.2 is.3 h
-  two_done (BallotDifferences left right prefer) l r c p is h = two_files l.now left r.now right c (pair.Answer asked_of_two.BallotDifferences) (option_copied p) prefer is.0 is.1 is.2 is.3 h
-  two_done (BallotDifferencesData left right prefer) l r c p is h = two_files l.now left r.now right c (pair.Answer asked_of_two.BallotDifferencesData) (option_copied p) prefer is.0 is.1 is.2 is.3 h
+  two_done (CompareData left right prefer) l r c p is h = two_files l.now left r.now right c (pair.Answer asked_of_two.CompareData) (option_copied p)
+      prefer is.0 is.1 is.2 is.3 h
+  two_done (Differences left right prefer) l r c p is h = two_files l.now left r.now right c (pair.Answer asked_of_two.Differences) (option_copied p)
+      prefer is.0 is.1 is.2 is.3 h
+  two_done (DifferencesData left right prefer) l r c p is h =
+      two_files l.now left r.now right c (pair.Answer asked_of_two.DifferencesData) (option_copied p) prefer is.0 is.1 is.2 is.3 h
+  two_done (BallotDifferences left right prefer) l r c p is h =
+      two_files l.now left r.now right c (pair.Answer asked_of_two.BallotDifferences) (option_copied p) prefer is.0 is.1 is.2 is.3 h
+  two_done (BallotDifferencesData left right prefer) l r c p is h =
+      two_files l.now left r.now right c (pair.Answer asked_of_two.BallotDifferencesData) (option_copied p) prefer is.0 is.1 is.2 is.3 h
   two_done _ l r c p is h = absurd is
 
   pub steps_done : (request : Request) (n : Bor (List ℕ)) (c : StepsCommand) (w p : Option (Bor (List ℕ))) → IsTaskOf request (task.BySteps n c w p)
       → IsDoneBySteps known (option_copied w) (steps_run c (option_copied p)) n.now status world → IsDone known request status world
-  steps_done (Prepare name words prefer) n c w p is h = by_steps n.now name c steps.Prepare (option_copied w) words (option_copied p) prefer is.0 is.1 is.2 is.3 h
+  steps_done (Prepare name words prefer) n c w p is h = by_steps n.now name c steps.Prepare (option_copied w) words (option_copied p)
+      prefer is.0 is.1 is.2 is.3 h
   steps_done (PrepareReport name words) n c w p is h = by_steps n.now name c steps.Report (option_copied w) words (option_copied p) None is.0 is.1 is.2 is.3 h
   steps_done _ n c w p is h = absurd is
 

@@ -10,7 +10,8 @@ abbrev shown_bytes : ℕ → List ℕ
 shown_bytes character = encode_utf8 (character_in_line character)
 
 -- one more character was pushed
-pub shown_more : (lines pushed left rest whole : List ℕ) (c d : ℕ) → IsUtf8 left → lines ++ name_in_line left ≡ whole → left ≡ encode_utf8 c ++ rest → pushed ≡ lines ++ encode_utf8 d
+pub shown_more : (lines pushed left rest whole : List ℕ) (c d : ℕ) → IsUtf8 left → lines ++ name_in_line left ≡ whole → left ≡ encode_utf8 c ++ rest
+    → pushed ≡ lines ++ encode_utf8 d
     → d ≡ character_in_line c → IsUtf8 rest × (pushed ++ name_in_line rest ≡ whole)
 shown_more lines pushed left rest whole c d utf8 before split push is = (
   IsUtf8-past_char left rest c utf8 split,

@@ -18,7 +18,8 @@ use Rattle.erd_program.specs.World.{Outside}
 
 -- The outside did not give something. The program wrote nothing but these words, or that it is out of memory, to standard
 -- error.
-pub record IsRefused {O E : Type 0} (errors : Writer E) (words : List ℕ) (fault : WorldFault) (status : ℕ) (out : BeforeAfter O) (err : BeforeAfter E) : Type 0 where
+pub record IsRefused {O E : Type 0} (errors : Writer E) (words : List ℕ) (fault : WorldFault) (status : ℕ) (out : BeforeAfter O)
+    (err : BeforeAfter E) : Type 0 where
   pub status_is : status ≡ world_status fault
   pub said : IsSaid errors (world_text words fault) err
   pub quiet : out.after ≡ out.before
@@ -30,7 +31,8 @@ IsUnopened errors name fault status out err =
     IsRefused errors (unopened_words name) fault status out err ⊎ IsRefused errors (unopened_words name) Memory status out err
 
 -- Standard input was canonicalised with no preference, and the program ended with the answer.
-pub record IsInputCanonicalised {F File I O E : Type 0} (known : Outside F File I O E) (status : ℕ) (input : BeforeAfter I) (out : BeforeAfter O) (err : BeforeAfter E) : Type 0 where
+pub record IsInputCanonicalised {F File I O E : Type 0} (known : Outside F File I O E) (status : ℕ) (input : BeforeAfter I) (out : BeforeAfter O)
+    (err : BeforeAfter E) : Type 0 where
   pub answer : Result Outcome RunFault
   -- standard error as the engine left it
   pub err_left : E
@@ -39,31 +41,40 @@ pub record IsInputCanonicalised {F File I O E : Type 0} (known : Outside F File 
   pub told : IsTold known.err answer (between err_left err.after)
 
 -- The engine checked the file under the preference.
-abbrev pub IsFileChecked : {F File I O E : Type 0} → Preference → Outside F File I O E → Result Outcome RunFault → BeforeAfter File → BeforeAfter O → BeforeAfter E → Type 0
+abbrev pub IsFileChecked : {F File I O E : Type 0} → Preference → Outside F File I O E → Result Outcome RunFault → BeforeAfter File → BeforeAfter O
+    → BeforeAfter E → Type 0
 IsFileChecked prefer known answer file out err = IsCheckRun known.file known.out prefer answer file out × (err.after ≡ err.before)
 
 -- The engine canonicalised the file under the preference.
-abbrev pub IsFileCanonicalised : {F File I O E : Type 0} → Preference → Outside F File I O E → Result Outcome RunFault → BeforeAfter File → BeforeAfter O → BeforeAfter E → Type 0
+abbrev pub IsFileCanonicalised : {F File I O E : Type 0} → Preference → Outside F File I O E → Result Outcome RunFault → BeforeAfter File → BeforeAfter O
+    → BeforeAfter E → Type 0
 IsFileCanonicalised prefer known answer file out err = IsCanonRun known.file known.out known.err prefer answer file out err
 
 -- The engine answered about the file under the preference, with one text.
-abbrev pub IsFileAnswered : {F File I O E : Type 0} → ReportCommand → Preference → Outside F File I O E → Result Outcome RunFault → BeforeAfter File → BeforeAfter O → BeforeAfter E → Type 0
-IsFileAnswered command prefer known answer file out err = IsReportRun known.file known.out (report_answers command prefer) answer file out × (err.after ≡ err.before)
+abbrev pub IsFileAnswered : {F File I O E : Type 0} → ReportCommand → Preference → Outside F File I O E → Result Outcome RunFault → BeforeAfter File
+    → BeforeAfter O → BeforeAfter E → Type 0
+IsFileAnswered command prefer known answer file out err = IsReportRun known.file known.out (report_answers command prefer) answer file out
+    × (err.after ≡ err.before)
 
 -- The engine prepared the file by the chosen steps, and judged what came of it under the preference.
-abbrev pub IsFilePrepared : {F File I O E : Type 0} → Preference → List StepName → Outside F File I O E → Result Outcome RunFault → BeforeAfter File → BeforeAfter O → BeforeAfter E → Type 0
+abbrev pub IsFilePrepared : {F File I O E : Type 0} → Preference → List StepName → Outside F File I O E → Result Outcome RunFault → BeforeAfter File
+    → BeforeAfter O → BeforeAfter E → Type 0
 IsFilePrepared prefer chosen known answer file out err = IsTextsRun known.file known.out known.err (IsPreparedAs prefer chosen) answer file out err
 
 -- The engine tried each step on the file.
-abbrev pub IsEachStepTried : {F File I O E : Type 0} → Outside F File I O E → Result Outcome RunFault → BeforeAfter File → BeforeAfter O → BeforeAfter E → Type 0
+abbrev pub IsEachStepTried : {F File I O E : Type 0} → Outside F File I O E → Result Outcome RunFault → BeforeAfter File → BeforeAfter O
+    → BeforeAfter E → Type 0
 IsEachStepTried known answer file out err = IsTextsRun known.file known.out known.err AreStepsListed answer file out err
 
 -- The engine prepared the file by the chosen steps, with what they did as the answer.
-abbrev pub IsPreparationReported : {F File I O E : Type 0} → List StepName → Outside F File I O E → Result Outcome RunFault → BeforeAfter File → BeforeAfter O → BeforeAfter E → Type 0
+abbrev pub IsPreparationReported : {F File I O E : Type 0} → List StepName → Outside F File I O E → Result Outcome RunFault → BeforeAfter File → BeforeAfter O
+    → BeforeAfter E → Type 0
 IsPreparationReported chosen known answer file out err = IsTextsRun known.file known.out known.err (IsPreparationTold chosen) answer file out err
 
 -- The engine ran on the file, and the file was closed as the engine left it. The program ended with the answer.
-pub record IsFileDone {F File I O E : Type 0} (known : Outside F File I O E) (Run : Outside F File I O E → Result Outcome RunFault → BeforeAfter File → BeforeAfter O → BeforeAfter E → Type 0) (name : List ℕ) (file : File) (status : ℕ) (closed : BeforeAfter (List (List ℕ × File))) (out : BeforeAfter O) (err : BeforeAfter E) : Type 0 where
+pub record IsFileDone {F File I O E : Type 0} (known : Outside F File I O E)
+    (Run : Outside F File I O E → Result Outcome RunFault → BeforeAfter File → BeforeAfter O → BeforeAfter E → Type 0) (name : List ℕ) (file : File)
+    (status : ℕ) (closed : BeforeAfter (List (List ℕ × File))) (out : BeforeAfter O) (err : BeforeAfter E) : Type 0 where
   pub answer : Result Outcome RunFault
   pub file_left : File
   pub err_left : E
@@ -73,15 +84,19 @@ pub record IsFileDone {F File I O E : Type 0} (known : Outside F File I O E) (Ru
   pub told : IsTold known.err answer (between err_left err.after)
 
 -- The engine compared the two files under the preference, with a line as the answer.
-abbrev pub AreFilesCompared : {F File I O E : Type 0} → Preference → Outside F File I O E → Result Outcome RunFault → BeforeAfter File → BeforeAfter File → BeforeAfter O → Type 0
+abbrev pub AreFilesCompared : {F File I O E : Type 0} → Preference → Outside F File I O E → Result Outcome RunFault → BeforeAfter File → BeforeAfter File
+    → BeforeAfter O → Type 0
 AreFilesCompared prefer known answer left right out = IsCompareRun known.file known.file known.out prefer answer left right out
 
 -- The engine answered about the two files under the preference, with one text.
-abbrev pub AreFilesAnswered : {F File I O E : Type 0} → PairCommand → Preference → Outside F File I O E → Result Outcome RunFault → BeforeAfter File → BeforeAfter File → BeforeAfter O → Type 0
+abbrev pub AreFilesAnswered : {F File I O E : Type 0} → PairCommand → Preference → Outside F File I O E → Result Outcome RunFault → BeforeAfter File
+    → BeforeAfter File → BeforeAfter O → Type 0
 AreFilesAnswered command prefer known answer left right out = IsPairRun known.file known.file known.out (pair_answers command prefer) answer left right out
 
 -- The engine ran on the two files, and they were closed as the engine left them. The program ended with the answer.
-pub record AreFilesDone {F File I O E : Type 0} (known : Outside F File I O E) (Run : Outside F File I O E → Result Outcome RunFault → BeforeAfter File → BeforeAfter File → BeforeAfter O → Type 0) (left_name right_name : List ℕ) (left right : File) (status : ℕ) (closed : BeforeAfter (List (List ℕ × File))) (out : BeforeAfter O) (err : BeforeAfter E) : Type 0 where
+pub record AreFilesDone {F File I O E : Type 0} (known : Outside F File I O E)
+    (Run : Outside F File I O E → Result Outcome RunFault → BeforeAfter File → BeforeAfter File → BeforeAfter O → Type 0) (left_name right_name : List ℕ)
+    (left right : File) (status : ℕ) (closed : BeforeAfter (List (List ℕ × File))) (out : BeforeAfter O) (err : BeforeAfter E) : Type 0 where
   pub answer : Result Outcome RunFault
   pub left_left : File
   pub right_left : File
@@ -91,14 +106,18 @@ pub record AreFilesDone {F File I O E : Type 0} (known : Outside F File I O E) (
   pub told : IsTold known.err answer err
 
 -- What is done for a command on one file, by what opening the file gave.
-abbrev pub IsFileAnswer : {F File I O E : Type 0} → Outside F File I O E → (Outside F File I O E → Result Outcome RunFault → BeforeAfter File → BeforeAfter O → BeforeAfter E → Type 0) → List ℕ → Result File WorldFault → ℕ → BeforeAfter (List (List ℕ × File)) → BeforeAfter O → BeforeAfter E → Type 0
+abbrev pub IsFileAnswer : {F File I O E : Type 0} → Outside F File I O E
+    → (Outside F File I O E → Result Outcome RunFault → BeforeAfter File → BeforeAfter O → BeforeAfter E → Type 0) → List ℕ → Result File WorldFault → ℕ
+    → BeforeAfter (List (List ℕ × File)) → BeforeAfter O → BeforeAfter E → Type 0
 IsFileAnswer known Run name (Ok file) status closed out err = IsFileDone known Run name file status closed out err
 IsFileAnswer known Run name (Err fault) status closed out err =
     (closed.after ≡ closed.before) × IsUnopened known.err name fault status out err
 
 -- What is done for a command on two files, by what opening the left file and then the right one gave. If one of them could not be
 -- opened, the other one was closed as it was.
-abbrev pub IsPairAnswer : {F File I O E : Type 0} → Outside F File I O E → (Outside F File I O E → Result Outcome RunFault → BeforeAfter File → BeforeAfter File → BeforeAfter O → Type 0) → List ℕ → List ℕ → Result File WorldFault → Result File WorldFault → ℕ → BeforeAfter (List (List ℕ × File)) → BeforeAfter O → BeforeAfter E → Type 0
+abbrev pub IsPairAnswer : {F File I O E : Type 0} → Outside F File I O E
+    → (Outside F File I O E → Result Outcome RunFault → BeforeAfter File → BeforeAfter File → BeforeAfter O → Type 0) → List ℕ → List ℕ → Result File WorldFault
+    → Result File WorldFault → ℕ → BeforeAfter (List (List ℕ × File)) → BeforeAfter O → BeforeAfter E → Type 0
 IsPairAnswer known Run left right (Ok a) (Ok b) status closed out err = AreFilesDone known Run left right a b status closed out err
 IsPairAnswer known Run left right (Ok a) (Err fault) status closed out err =
     (closed.after ≡ closed.before ++ (left, a) ∷ []) × IsUnopened known.err right fault status out err

@@ -16,5 +16,6 @@ pub record Outside (F File I O E : Type 0) : Type 0 where
   pub err : Writer E
 
 -- What is known of the outside, by its parts.
-abbrev pub outside : {F File I O E : Type 0} → (F → List (List ℕ × Result File WorldFault)) → (F → List (List ℕ × Result File WorldFault)) → (F → List (List ℕ × File)) → Reader File → Reader I → Writer O → Writer E → Outside F File I O E
+abbrev pub outside : {F File I O E : Type 0} → (F → List (List ℕ × Result File WorldFault)) → (F → List (List ℕ × Result File WorldFault))
+    → (F → List (List ℕ × File)) → Reader File → Reader I → Writer O → Writer E → Outside F File I O E
 outside opened beside closed file input out err = record { opened = opened; beside = beside; closed = closed; file = file; input = input; out = out; err = err }

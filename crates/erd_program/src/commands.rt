@@ -90,7 +90,8 @@ fn open_file<F: Files, I: Source, O: Sink, E: Sink, D: Disposal>(
     ensures input { world.new.input ≡ world.old.input }
     ensures opened { F.opened world.new.files ≡ F.opened world.old.files }
     ensures done { IsFileDone (outside F.opened F.beside F.closed F.File.reader I.reader O.writer E.writer)
-        (run_of command.entry (option_copied prefer.entry)) named.entry.0.now named.entry.1 result (between (F.closed world.old.files) (F.closed world.new.files))
+        (run_of command.entry (option_copied prefer.entry)) named.entry.0.now named.entry.1 result
+        (between (F.closed world.old.files) (F.closed world.new.files))
         (between world.old.out world.new.out) (between world.old.err world.new.err) }
 {
     let (name, mut file) = named;

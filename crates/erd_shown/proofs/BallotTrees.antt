@@ -1,5 +1,7 @@
 -- The values of ballots are trees whose numbers fit 64 bits. So two with one text are one value.
-use Rattle.erd_shown.proofs.Common.{◌≡◌, ℕ, ◌^◌, Bool, true, false, if◌then◌else◌, List, [], ◌∷◌, map, pos, negsuc, Some, None, Option, nat_lt, bytes_eq, refl, subst, both_ways, option_map_or, slice_get, Data, null, number, unsigned, negative, compact_text, is_same_json, text_exact, text_itself, is_same_exact, family, Preference, Key, NameParts, Placed, objects, IsTree, HasFittingNumbers}
+use Rattle.erd_shown.proofs.Common.{◌≡◌, ℕ, ◌^◌, Bool, true, false, if◌then◌else◌, List, [], ◌∷◌, map, pos, negsuc, Some, None, Option, nat_lt, bytes_eq, refl}
+use Rattle.erd_shown.proofs.Common.{subst, both_ways, option_map_or, slice_get, Data, null, number, unsigned, negative, compact_text, is_same_json, text_exact}
+use Rattle.erd_shown.proofs.Common.{text_itself, is_same_exact, family, Preference, Key, NameParts, Placed, objects, IsTree, HasFittingNumbers}
 use Rattle.std.proofs.lemmas.Bool.{ltb-true}
 use Rattle.std.specs.Prelude.{ℤ}
 use Rattle.erd_shown.specs.Ballots.{ballot_data, ballot_in, keyed_ballot, line_data, lines_of, thing_at, thing_data}

@@ -1,5 +1,6 @@
 -- What the table asks of a member names objects with keys, if it asks for references.
-use Rattle.erd_shown.proofs.Common.{◌≡◌, ℕ, Bool, true, false, List, codes, bytes_eq, refl, ap, ◌∙◌, list_all, Class, class, rows_of_class, kind_of_member, kind_of_identity, kind_of_class, kind_of_type, text_exact}
+use Rattle.erd_shown.proofs.Common.{◌≡◌, ℕ, Bool, true, false, List, codes, bytes_eq, refl, ap, ◌∙◌, list_all, Class, class, rows_of_class, kind_of_member}
+use Rattle.erd_shown.proofs.Common.{kind_of_identity, kind_of_class, kind_of_type, text_exact}
 use Rattle.erd_shown.specs.code.Writing.{names_keys}
 
 rows_keyed : (c : Class) → list_all (λ m. names_keys m.kind) (rows_of_class c) ≡ true

@@ -1,38 +1,15 @@
 -- The object that has a key, found by its position.
-use Rattle.erd_shown.proofs.Common.{◌≡◌, ℕ, ◌+◌, Bool, true, false, cond, List, drop, slice_get, find, Some, None, Option}
+use Rattle.erd_shown.proofs.Common.{◌≡◌, ℕ, Bool, true, false, cond, List, slice_get, Some, None, Option}
 use Rattle.erd_shown.proofs.Common.{option_and_then, option_cmp, is_eq, sym, refl, ap, ◌∙◌, tied_itself, key_cmp_total, position_of, equal_keys}
 use Rattle.erd_shown.proofs.Common.{Data, Family, has_keys, Preference, IsAccepted, key_cmp, key_of, key_in, find-Some, find-any, any_at, in_at}
-use Rattle.erd_shown.proofs.Common.{one_keyed, Placed, elections, objects, placed_with_key, and_then-Some, Key}
-use Rattle.erd_meaning.specs.Lookups.{FindsKey, election_key_in}
-use Rattle.erd_shown.proofs.Written.{drop_there}
+use Rattle.erd_shown.proofs.Common.{one_keyed, Placed, objects, placed_with_key, and_then-Some, Key}
+use Rattle.erd_meaning.specs.Lookups.{FindsKey}
 
--- ---- the first of a list that passes a test
-
-module _ {X : Type 0} (p : X → Bool) (xs : List X) (i : ℕ) (x : X) (there : slice_get xs i ≡ Some x) where
-  pub first_here : p x ≡ true → find p xs ≡ find p (drop i xs) → slice_get xs i ≡ find p xs
-  first_here passes before = there ∙ sym (before ∙ (ap (find p) (drop_there xs i x there) ∙ ap (λ b. cond b (Some x) (find p (drop (i + 1) xs))) passes))
-
-  pub first_later : p x ≡ false → find p xs ≡ find p (drop i xs) → find p xs ≡ find p (drop (i + 1) xs)
-  first_later fails before = before ∙ (ap (find p) (drop_there xs i x there) ∙ ap (λ b. cond b (Some x) (find p (drop (i + 1) xs))) fails)
-
--- the test that finds the election with a key, or without a key
-abbrev pub has_given_key : Preference → Option Key → Placed → Bool
-has_given_key π k e = is_eq (option_cmp key_cmp (key_of π e.value) k)
-
-module _ (π : Preference) (t : Data) (k : Option Key) (i : ℕ) (same : Bool) (told : same ≡ is_eq (option_cmp key_cmp (election_key_in π t i) k)) (e : Placed)
-    (there : slice_get (elections t) i ≡ Some e) where
-  told_there : same ≡ has_given_key π k e
-  told_there = told ∙ ap (λ o. is_eq (option_cmp key_cmp (option_and_then (λ (e : Placed). key_of π e.value) o) k)) there
-
-  pub election_here : same ≡ true → find (has_given_key π k) (elections t) ≡ find (has_given_key π k) (drop i (elections t)) → slice_get (elections t) i
-      ≡ find (has_given_key π k) (elections t)
-  election_here is before = first_here (has_given_key π k) (elections t) i e there (sym told_there ∙ is) before
-
-  pub election_later : same ≡ false → find (has_given_key π k) (elections t) ≡ find (has_given_key π k) (drop i (elections t))
-      → find (has_given_key π k) (elections t) ≡ find (has_given_key π k) (drop (i + 1) (elections t))
-  election_later is before = first_later (has_given_key π k) (elections t) i e there (sym told_there ∙ is) before
-
--- ---- the object of a family
+-- the key of an object of a family with keys is the one at its place
+pub key_in_place : (π : Preference) (t : Data) (f : Family) → has_keys f ≡ true → (o : Placed) (i : ℕ) → slice_get (objects f t) i ≡ Some o
+    → key_in π f t i ≡ key_of π o.value
+key_in_place π t f keyed o i at =
+    ap (option_and_then (λ (o : Placed). cond (has_keys f) (key_of π o.value) None)) at ∙ ap (λ b. cond b (key_of π o.value) None) keyed
 
 -- the test that finds the object with a key
 abbrev has_this_key : Preference → Key → Placed → Bool
@@ -63,7 +40,7 @@ module _ (π : Preference) (t : Data) (accepted : IsAccepted π t) (f : Family) 
   key_there keyed i o there e =
       ap (option_and_then (λ (o : Placed). cond (has_keys f) (key_of π o.value) None)) there ∙ (ap (λ b. cond b (key_of π o.value) None) keyed ∙ e)
 
-  keyed_found : has_keys f ≡ true → (found : Option ℕ) → FindsKey π t f k found → option_and_then (slice_get os) found ≡ placed_with_key π t f k
+  pub keyed_found : has_keys f ≡ true → (found : Option ℕ) → FindsKey π t f k found → option_and_then (slice_get os) found ≡ placed_with_key π t f k
   keyed_found keyed None finds = at (placed_with_key π t f k) refl
     where
       at : (o : Option Placed) → placed_with_key π t f k ≡ o → None ≡ placed_with_key π t f k

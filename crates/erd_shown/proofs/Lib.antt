@@ -6,7 +6,8 @@ mod KeyedKinds
 mod Found
 mod Placed
 mod KeysFound
-mod KeysHeld
+mod ElectionsFound
+mod EmptyArrays
 mod MarkLists
 mod Written
 mod SelectionPairs
@@ -18,3 +19,4 @@ mod RowLaws
 mod NameLists
 mod MembersWritten
 mod BallotTrees
+mod LineLaws

@@ -1,5 +1,6 @@
 -- What stands inside a header.
-use Rattle.erd_text.proofs.Common.{◌≡◌, ℕ, ◌+◌, true, false, List, [], ◌∷◌, Some, None, Option, codes, is_eq, Ordering, Equal, sym, refl, ap, ◌∙◌, Data, null, boolean, string, array, object, Members, no_members, member, get_member, get}
+use Rattle.erd_text.proofs.Common.{◌≡◌, ℕ, ◌+◌, true, false, List, [], ◌∷◌, Some, None, Option, codes, is_eq, Ordering, Equal, sym, refl, ap, ◌∙◌, Data, null}
+use Rattle.erd_text.proofs.Common.{boolean, string, array, object, Members, no_members, member, get_member, get}
 use Rattle.std.proofs.lemmas.Map.Text.{is_eq-slice_cmp}
 use Rattle.serde_json.specs.Data.{number}
 use Rattle.erd_tables.specs.Texts.{text_cmp}

@@ -1,10 +1,13 @@
 -- Marks of objects, in the order of the objects.
-use Rattle.erd_shown.proofs.Common.{◌≡◌, ℕ, ◌+◌, ◌<◌, ◌≤◌, Bool, true, false, cond, ◌||◌, List, [], ◌∷◌, ◌++◌, length, map, drop, slice_get, Some, None, Option, option_map, option_and_then, option_map_or, list_any, unwrap_or, sym, refl, ap, ◌∙◌, subst, append_assoc, append-nil, slice_get-map, length-map, at_low, drop_all, Data, Family, Placed, objects, owner}
+use Rattle.erd_shown.proofs.Common.{◌≡◌, ℕ, ◌+◌, ◌<◌, ◌≤◌, Bool, true, false, cond, ◌||◌, List, [], ◌∷◌, ◌++◌, length, map, drop, slice_get, Some, None, Option}
+use Rattle.erd_shown.proofs.Common.{option_map, option_map_or, list_any, unwrap_or, sym, refl, ap, ◌∙◌, subst, append_assoc, append-nil}
+use Rattle.erd_shown.proofs.Common.{slice_get-map, length-map, at_low, drop_all, Data, Family, Placed, objects, owner}
 use Rattle.erd_shown.specs.Reworded.{true_of_named}
 use Rattle.erd_shown.specs.code.Marks.{marks_of}
 use Rattle.erd_shown.proofs.Written.{drop_there}
 
-pub mark_there : (P : Data → Bool) (f : Family) (t : Data) (i : ℕ) → unwrap_or (slice_get (marks_of P f t) i) false ≡ option_map_or P (option_map (λ o. o.value) (slice_get (objects f t) i)) false
+pub mark_there : (P : Data → Bool) (f : Family) (t : Data) (i : ℕ) → unwrap_or (slice_get (marks_of P f t) i) false
+    ≡ option_map_or P (option_map (λ o. o.value) (slice_get (objects f t) i)) false
 mark_there P f t i = ap (λ x. unwrap_or x false) (slice_get-map (λ (o : Placed). P o.value) (objects f t) i) ∙ at (slice_get (objects f t) i)
   where
     at : (o : Option Placed) → unwrap_or (option_map (λ (o : Placed). P o.value) o) false ≡ option_map_or P (option_map (λ o. o.value) o) false
@@ -42,7 +45,8 @@ pub else_so : {A : Type 0} (b : Bool) (x y z : A) → b ≡ false → z ≡ y �
 else_so true x y z is e = cc
 else_so false x y z is e = e
 
-pub all_marked : (P : Data → Bool) (f : Family) (t : Data) (i : ℕ) (marks : List Bool) → length (objects f t) ≤ i → marks ++ drop i (marks_of P f t) ≡ marks_of P f t → marks ≡ marks_of P f t
+pub all_marked : (P : Data → Bool) (f : Family) (t : Data) (i : ℕ) (marks : List Bool) → length (objects f t) ≤ i → marks ++ drop i (marks_of P f t)
+    ≡ marks_of P f t → marks ≡ marks_of P f t
 all_marked P f t i marks past all =
     let many : length (marks_of P f t) ≤ i = subst (λ n. n ≤ i) (sym (length-map (objects f t) (λ (o : Placed). P o.value))) past in
     sym (append-nil marks) ∙ ap (λ xs. marks ++ xs) (sym (drop_all i (marks_of P f t) many)) ∙ all

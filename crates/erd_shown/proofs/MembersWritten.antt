@@ -3,7 +3,8 @@ use Rattle.erd_text.proofs.Common.{◌≡◌, ℕ, List, [], ◌∷◌, ◌++◌
 use Rattle.json.specs.Token.{Token, key}
 use Rattle.erd_text.proofs.WrittenTokens.{then_rest}
 
-pub member_then : (o0 o1 o2 o3 : List Token) (k : List ℕ) (a : Data) (ms : Members) → o1 ≡ o0 ++ key k ∷ [] → o2 ≡ o1 ++ value_tokens a → o3 ≡ o2 ++ members_tokens ms
+pub member_then : (o0 o1 o2 o3 : List Token) (k : List ℕ) (a : Data) (ms : Members) → o1 ≡ o0 ++ key k ∷ [] → o2 ≡ o1 ++ value_tokens a
+    → o3 ≡ o2 ++ members_tokens ms
     → o3 ≡ o0 ++ members_tokens (member k a ms)
 member_then o0 o1 o2 o3 k a ms e1 e2 e3 =
     let all = o0 ++ members_tokens (member k a ms) in

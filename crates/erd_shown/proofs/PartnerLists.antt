@@ -1,5 +1,6 @@
 -- Occurrences that are counted, and places that are put into a map.
-use Rattle.erd_text.proofs.Common.{◌≡◌, ℕ, suc, ◌+◌, ◌≤◌, Bool, true, false, cond, ◌&&◌, List, [], ◌∷◌, ◌++◌, map, length, drop, ◌==◌, Some, None, Option, nat_cmp, is_eq, Ordering, Less, Equal, Greater, unwrap_or, sym, refl, ap, ◌∙◌, arith, append_assoc}
+use Rattle.erd_text.proofs.Common.{◌≡◌, ℕ, suc, ◌+◌, ◌≤◌, Bool, true, false, cond, ◌&&◌, List, [], ◌∷◌, ◌++◌, map, length, drop, ◌==◌, Some, None, Option}
+use Rattle.erd_text.proofs.Common.{nat_cmp, is_eq, Ordering, Less, Equal, Greater, unwrap_or, sym, refl, ap, ◌∙◌, arith, append_assoc}
 use Rattle.std.specs.Cmp.{IsEquivalence, unsigned_tied}
 use Rattle.std.specs.Map.{lookup}
 use Rattle.std.specs.Option.{option_or}
@@ -20,7 +21,8 @@ module _ {K : Type 0} (same : K → K → Bool) where
   -- one thing stands as often under either name
   times_of_one : (laws : IsEquivalence same) (x q : K) → same x q ≡ true → (ys : List K) → times same x ys ≡ times same q ys
   times_of_one laws x q one [] = refl
-  times_of_one laws x q one (y ∷ ys) = ap (λ b. cond b (suc (times same x ys)) (times same x ys)) (laws.congr x q y one) ∙ ap (λ n. cond (same q y) (suc n) n) (times_of_one laws x q one ys)
+  times_of_one laws x q one (y ∷ ys) = ap (λ b. cond b (suc (times same x ys)) (times same x ys)) (laws.congr x q y one) ∙ ap (λ n. cond (same q y) (suc n) n)
+      (times_of_one laws x q one ys)
 
   -- the entries of a map tell how often each thing stands
   abbrev pub HaveTimes : List (K × ℕ) → List K → Type 0
@@ -31,7 +33,8 @@ module _ {K : Type 0} (same : K → K → Bool) where
   counted laws x m n next before is updates had q = ap (λ o. unwrap_or o 0) (updates q) ∙ at (same x q) refl
     where
       at : (b : Bool) → same x q ≡ b → unwrap_or (cond b (Some next) (lookup (same q) m)) 0 ≡ times same q (x ∷ before)
-      at true e = (is ∙ ap (λ k. k + 1) (had x ∙ times_of_one laws x q e before) ∙ let one : times same q before + 1 ≡ suc (times same q before) = omega arith in one)
+      at true e =
+          (is ∙ ap (λ k. k + 1) (had x ∙ times_of_one laws x q e before) ∙ let one : times same q before + 1 ≡ suc (times same q before) = omega arith in one)
           ∙ ap (λ b. cond b (suc (times same q before)) (times same q before)) (sym (laws.symm q x ∙ e))
       at false e = had q ∙ ap (λ b. cond b (suc (times same q before)) (times same q before)) (sym (laws.symm q x ∙ e))
 
@@ -47,13 +50,16 @@ same_occurrence cmp p q = then_equal (cmp p.0 q.0) (nat_cmp p.1 q.1) ∙ ap (λ 
 module _ {K : Type 0} (cmp : K → K → Ordering) where
   -- the entries of a map tell where each occurrence stands, but for those that are left, of which the first has the position i
   abbrev pub HavePlacesBut : List (K × ℕ) → ℕ → List (K × ℕ) → List ((K × ℕ) × ℕ) → Type 0
-  HavePlacesBut all i left entries = (p : K × ℕ) → option_or (place_from (eq_by_cmp cmp) i left p) (lookup (eq_by_cmp (occurrence_cmp cmp) p) entries) ≡ place_from (eq_by_cmp cmp) 0 all p
+  HavePlacesBut all i left entries = (p : K × ℕ) → option_or (place_from (eq_by_cmp cmp) i left p) (lookup (eq_by_cmp (occurrence_cmp cmp) p) entries)
+      ≡ place_from (eq_by_cmp cmp) 0 all p
 
   pub placed_one : (all : List (K × ℕ)) (i : ℕ) (x : K × ℕ) (left : List (K × ℕ)) (m n : List ((K × ℕ) × ℕ))
-      → ((q : K × ℕ) → lookup (eq_by_cmp (occurrence_cmp cmp) q) n ≡ cond (eq_by_cmp (occurrence_cmp cmp) x q) (Some i) (lookup (eq_by_cmp (occurrence_cmp cmp) q) m))
+      → ((q : K × ℕ) → lookup (eq_by_cmp (occurrence_cmp cmp) q) n ≡ cond (eq_by_cmp (occurrence_cmp cmp) x q) (Some i)
+      (lookup (eq_by_cmp (occurrence_cmp cmp) q) m))
       → HavePlacesBut all i (x ∷ left) m → HavePlacesBut all (i + 1) left n
   placed_one all i x left m n updates had p =
-      ap (option_or (place_from (eq_by_cmp cmp) (i + 1) left p)) (updates p ∙ ap (λ b. cond b (Some i) (lookup (eq_by_cmp (occurrence_cmp cmp) p) m)) (same_occurrence cmp x p))
+      ap (option_or (place_from (eq_by_cmp cmp) (i + 1) left p))
+      (updates p ∙ ap (λ b. cond b (Some i) (lookup (eq_by_cmp (occurrence_cmp cmp) p) m)) (same_occurrence cmp x p))
       ∙ (at (place_from (eq_by_cmp cmp) (i + 1) left p) (is_same_occurrence (eq_by_cmp cmp) x p) (lookup (eq_by_cmp (occurrence_cmp cmp) p) m) ∙ had p)
     where
       at : (o : Option ℕ) (b : Bool) (r : Option ℕ) → option_or o (cond b (Some i) r) ≡ option_or (option_or o (cond b (Some i) None)) r
@@ -67,7 +73,8 @@ pub record AreCounted {K : Type 0} (same : K → K → Bool) (things : List K) (
   pub counts : HaveTimes same entries before
   pub so_far : found ++ occurrences_after same before (drop i things) ≡ occurrences same things
 
-pub counted_one : {K : Type 0} (same : K → K → Bool) → IsEquivalence same → (things : List K) (i : ℕ) (x : K) (m n : List (K × ℕ)) (c next : ℕ) (found more : List (K × ℕ))
+pub counted_one : {K : Type 0} (same : K → K → Bool) → IsEquivalence same → (things : List K) (i : ℕ) (x : K) (m n : List (K × ℕ)) (c next : ℕ)
+    (found more : List (K × ℕ))
     → drop i things ≡ x ∷ drop (i + 1) things → c ≡ unwrap_or (lookup (same x) m) 0 → next ≡ c + 1
     → ((q : K) → lookup (same q) n ≡ cond (same x q) (Some next) (lookup (same q) m)) → more ≡ found ++ (x, c) ∷ []
     → AreCounted same things i m found → AreCounted same things (i + 1) n more
@@ -111,7 +118,8 @@ module _ {A B : Type 0} (f : A → B) (same : A → A → Bool) (alike : B → B
 
   places_for : (qs ps : List (A × ℕ)) → map (place_from same 0 qs) ps ≡ map (place_from alike 0 (map stand_for qs)) (map stand_for ps)
   places_for qs [] = refl
-  places_for qs (p ∷ ps) = ap (λ o. o ∷ map (place_from same 0 qs) ps) (place_for 0 qs p) ∙ ap (λ os. place_from alike 0 (map stand_for qs) (stand_for p) ∷ os) (places_for qs ps)
+  places_for qs (p ∷ ps) = ap (λ o. o ∷ map (place_from same 0 qs) ps) (place_for 0 qs p)
+      ∙ ap (λ os. place_from alike 0 (map stand_for qs) (stand_for p) ∷ os) (places_for qs ps)
 
   pub partners_for : (xs ys : List A) → partners same xs ys ≡ partners alike (map f xs) (map f ys)
   partners_for xs ys =

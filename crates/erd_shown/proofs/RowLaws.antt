@@ -1,5 +1,6 @@
 -- Rows that tell no difference.
-use Rattle.erd_shown.proofs.Common.{◌≡◌, ℕ, zero, suc, ◌+◌, ◌<◌, List, [], ◌∷◌, map, length, slice_get, Some, Option, Bool, sym, refl, ap, ap₂, ◌∙◌, arith, length-map, AllByRecursion, eq_by_cmp, Data, Preference}
+use Rattle.erd_shown.proofs.Common.{◌≡◌, ℕ, zero, suc, ◌+◌, ◌<◌, List, [], ◌∷◌, map, length, slice_get, Some, Option, Bool, sym, refl, ap, ap₂, ◌∙◌, arith}
+use Rattle.erd_shown.proofs.Common.{length-map, AllByRecursion, eq_by_cmp, Data, Preference}
 use Rattle.erd_shown.specs.BallotLaws.{BallotsTell, TellsNoDifference}
 use Rattle.erd_shown.specs.Ballots.{line_data, lines_of, thing_at}
 use Rattle.erd_shown.specs.KeyData.{array_of}
@@ -13,7 +14,8 @@ from_start : (h : ℕ) → h ≡ 0 + h
 from_start h = omega arith
 
 module _ {A : Type 0} where
-  step : (ls rs : List A) (k i j n : ℕ) → i ≡ k → j ≡ k → slice_get ls i ≡ slice_get rs j → ((h : ℕ) → h < n → slice_get ls (k + 1 + h) ≡ slice_get rs (k + 1 + h))
+  step : (ls rs : List A) (k i j n : ℕ) → i ≡ k → j ≡ k → slice_get ls i ≡ slice_get rs j
+      → ((h : ℕ) → h < n → slice_get ls (k + 1 + h) ≡ slice_get rs (k + 1 + h))
       → (h : ℕ) → h < suc n → slice_get ls (k + h) ≡ slice_get rs (k + h)
   step ls rs k i j n one other same rest zero low =
       let left : k + 0 ≡ i = omega (arith, one) in
@@ -54,7 +56,8 @@ module _ {A : Type 0} where
       ap₂ (λ x xs. x ∷ xs) head (same_lists ls rs count (λ h low. each (suc h) (omega (arith, low))))
 
   -- no row tells a difference: the lists are equal
-  equal_lists : (left right : List (Option ℕ)) (rows : List Row) (ls rs : List A) → length left ≡ length ls → length right ≡ length rs → AreRows left right rows → AllByRecursion (TellsNoDifference ls rs) rows → ls ≡ rs
+  equal_lists : (left right : List (Option ℕ)) (rows : List Row) (ls rs : List A) → length left ≡ length ls → length right ≡ length rs → AreRows left right rows
+      → AllByRecursion (TellsNoDifference ls rs) rows → ls ≡ rs
   equal_lists left right rows ls rs e f are none =
       let walked = paired ls rs rows 0 (length ls) (length rs) (are.left_lines ∙ ap (from 0) e) (are.right_lines ∙ ap (from 0) f) none in
       same_lists ls rs walked.0 (λ h low. ap (slice_get ls) (from_start h) ∙ walked.1 h low ∙ ap (slice_get rs) (sym (from_start h)))
@@ -66,7 +69,8 @@ occurrences_count same before (x ∷ xs) = ap suc (occurrences_count same (x ∷
 partners_count : {K : Type 0} (same : K → K → Bool) (xs ys : List K) → length (partners same xs ys) ≡ length xs
 partners_count same xs ys = length-map (occurrences same xs) (place_from same 0 (occurrences same ys)) ∙ occurrences_count same [] xs
 
-lines_count : (π ρ : Preference) (t u d e : Data) → length (partners (eq_by_cmp thing_cmp) (things_of π t d) (things_of ρ u e)) ≡ length (map (line_data π t) (lines_of d))
+lines_count : (π ρ : Preference) (t u d e : Data) → length (partners (eq_by_cmp thing_cmp) (things_of π t d) (things_of ρ u e))
+    ≡ length (map (line_data π t) (lines_of d))
 lines_count π ρ t u d e =
     partners_count (eq_by_cmp thing_cmp) (things_of π t d) (things_of ρ u e)
     ∙ length-map (lines_of d) (λ (l : ℕ × Data). thing_at π t l.1)
@@ -74,4 +78,5 @@ lines_count π ρ t u d e =
 
 pub ballots_told : BallotsTell
 ballots_told π ρ t u d e rows are none =
-    ap array_of (equal_lists _ _ rows (map (line_data π t) (lines_of d)) (map (line_data ρ u) (lines_of e)) (lines_count π ρ t u d e) (lines_count ρ π u t e d) are none)
+    ap array_of (equal_lists _ _ rows (map (line_data π t) (lines_of d)) (map (line_data ρ u) (lines_of e)) (lines_count π ρ t u d e)
+    (lines_count ρ π u t e d) are none)

@@ -1,5 +1,6 @@
 -- One row more.
-use Rattle.erd_text.proofs.Common.{◌≡◌, ℕ, zero, suc, ◌+◌, List, [], ◌∷◌, ◌++◌, Option, Some, None, sym, refl, ap, ◌∙◌, arith, AllByRecursion, add-one, slice_get}
+use Rattle.erd_text.proofs.Common.{◌≡◌, ℕ, zero, suc, ◌+◌, List, [], ◌∷◌, ◌++◌, Option, Some, None, sym, refl, ap, ◌∙◌, arith, AllByRecursion, add-one}
+use Rattle.erd_text.proofs.Common.{slice_get}
 use Rattle.erd_shown.specs.code.RowsSoFar.{AreUpTo, left_row, right_row}
 use Rattle.erd_shown.specs.declared.rows.Row.{Row}
 use Rattle.erd_shown.specs.declared.rows.Row.TheVariants.{Both, Removed, Added, MovedAway, MovedHere}

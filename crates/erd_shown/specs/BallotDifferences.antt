@@ -4,7 +4,7 @@ use Rattle.std.specs.List.{filter_map}
 use Rattle.std.specs.Option.{option_cmp, option_map_or}
 use Rattle.std.specs.Ordering.{eq_by_cmp}
 use Rattle.std.specs.Str.{bytes_eq}
-use Rattle.serde_json.specs.Data.{Data, object, Members, no_members, member}
+use Rattle.serde_json.specs.Data.{Data, Members, no_members, member}
 use Rattle.serde_json.specs.Written.{compact_text}
 use Rattle.erd_tables.specs.declared.class.Family.TheVariants as family
 use Rattle.erd_check.specs.Trees.{is_same_json}
@@ -14,7 +14,7 @@ use Rattle.erd_meaning.specs.Objects.{objects}
 use Rattle.erd_meaning.specs.declared.keys.key.Key.{Key}
 use Rattle.erd_shown.specs.BallotWords.{selections_in}
 use Rattle.erd_shown.specs.Ballots.{ballot_in}
-use Rattle.erd_shown.specs.KeyData.{array_of, shown_key_or_null}
+use Rattle.erd_shown.specs.KeyData.{shown_key_or_null}
 use Rattle.erd_shown.specs.Partners.{partners}
 use Rattle.erd_shown.specs.Reworded.{is_ballot_reworded}
 use Rattle.erd_shown.specs.RowData.{number_or_null}
@@ -27,7 +27,7 @@ use Rattle.erd_shown.specs.declared.rows.Row.TheVariants.{Both, Removed, Added, 
 abbrev pub right_members : Option ℕ → Members
 right_members right = member (codes "right") (number_or_null right) no_members
 
--- A style: its key, and where it stands in the left report and in the right one, if it does.
+-- A style: its key, and where either report has it.
 pub record StyleFound : Type 0 where
   pub key : Option Key
   pub left : Option ℕ
@@ -37,14 +37,9 @@ pub record StyleFound : Type 0 where
 abbrev pub of_style : BallotDifference → StyleFound
 of_style s = record { key = option_copied s.key; left = s.left; right = s.right }
 
--- The same as JSON, with null where the style doesn't stand.
-abbrev pub style_data : StyleFound → Data
-style_data s =
-    object (member (codes "key") (shown_key_or_null s.key) (member (codes "left") (number_or_null s.left) (right_members s.right)))
-
--- Styles as the array of their objects.
-abbrev pub styles_data : List StyleFound → Data
-styles_data found = array_of (map style_data found)
+-- A style, as the last members of its object: its key, and where it stands, with null where it doesn't.
+abbrev pub style_members : StyleFound → Members
+style_members s = member (codes "key") (shown_key_or_null s.key) (member (codes "left") (number_or_null s.left) (right_members s.right))
 
 -- True if the ballots of the styles at two positions are one value: their lines, and which voters get them.
 abbrev pub has_same_lines : Preference → Data → Preference → Data → ℕ → ℕ → Bool

@@ -1,13 +1,10 @@
 -- The law of the rows of two ballots. All of this is the profile's own.
 use Rattle.std.specs.Prelude.{◌≡◌, List, map, slice_get}
 use Rattle.std.specs.List.{AllByRecursion}
-use Rattle.std.specs.Ordering.{eq_by_cmp}
 use Rattle.serde_json.specs.Data.{Data}
 use Rattle.erd_meaning.specs.Keys.{Preference}
 use Rattle.erd_shown.specs.Ballots.{line_data, lines_data, lines_of}
-use Rattle.erd_shown.specs.Partners.{partners}
-use Rattle.erd_shown.specs.RowData.{thing_cmp, things_of}
-use Rattle.erd_shown.specs.Rows.{AreRows}
+use Rattle.erd_shown.specs.RowData.{AreLineRows}
 use Rattle.erd_shown.specs.declared.rows.Row.{Row}
 use Rattle.erd_shown.specs.declared.rows.Row.TheVariants.{Both}
 
@@ -20,6 +17,6 @@ TellsNoDifference ls rs row = ⊥
 abbrev pub BallotsTell : Type 0
 BallotsTell =
     (π ρ : Preference) (t u d e : Data) (rows : List Row)
-    → AreRows (partners (eq_by_cmp thing_cmp) (things_of π t d) (things_of ρ u e)) (partners (eq_by_cmp thing_cmp) (things_of ρ u e) (things_of π t d)) rows
+    → AreLineRows π t d ρ u e rows
     → AllByRecursion (TellsNoDifference (map (line_data π t) (lines_of d)) (map (line_data ρ u) (lines_of e))) rows
     → lines_data π t d ≡ lines_data ρ u e

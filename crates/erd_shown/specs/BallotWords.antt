@@ -98,6 +98,6 @@ selection_words π t d =
 abbrev pub printed_selections : Preference → Data → Data → Data
 printed_selections π t d = array_of (map (λ l. selection_words π t l.1) (lines_of d))
 
--- The same by position, or null if there is no such style.
+-- The same by position, or null.
 abbrev pub selections_in : Preference → Data → ℕ → Data
 selections_in π t i = option_map_or (λ o. printed_selections π t o.value) (slice_get (objects family.Style t) i) null

@@ -1,4 +1,4 @@
--- The ballot of a style as JSON, with keys and names in place of references. All of this is the profile's own.
+-- The ballot of a style as JSON, by keys and names. All of this is the profile's own.
 use Rattle.std.specs.Prelude.{ℕ, pos, List, [], ◌∷◌, Bool, true, false, if◌then◌else◌, slice_get, Option, Some, map, codes}
 use Rattle.std.specs.Option.{option_map_or}
 use Rattle.serde_json.specs.Data.{Data, null, boolean, string, object, Members, no_members, member}
@@ -15,7 +15,7 @@ use Rattle.erd_shown.specs.ListedNames.{lists_selections, names_on}
 use Rattle.erd_shown.specs.Lines.{content_lines}
 use Rattle.erd_shown.specs.Shown.{keys_data}
 
--- What a line is, whatever else is said of it: whether it is a header, and its key.
+-- What a line is: whether it is a header, and its key.
 abbrev pub thing_at : Preference → Data → Data → Bool × Option Key
 thing_at π t d =
     if is_header_class (class_of_node d)
@@ -39,14 +39,14 @@ abbrev pub line_data : Preference → Data → ℕ × Data → Data
 line_data π t (depth, d) =
     object (member (codes "depth") (shown_whole (pos depth)) (member (codes "listed") (boolean (lists_selections d)) (listed_members π t d)))
 
--- The lines of the ballot of a style, in their order.
+-- The lines of a ballot, in their order.
 abbrev pub lines_of : Data → List (ℕ × Data)
 lines_of d = option_map_or (content_lines 0) (get (codes "OrderedContent") d) []
 
 abbrev pub lines_data : Preference → Data → Data → Data
 lines_data π t d = array_of (map (line_data π t) (lines_of d))
 
--- The parties and the units whose voters get the ballot of a style, in rising order, as the last members of its object.
+-- The parties and units whose voters get a ballot, in rising order, as the last members of its object.
 abbrev pub voters_members : Preference → Data → Data → Members
 voters_members π t d =
     member (codes "parties") (keys_data π t family.Party (entries_at (codes "PartyIds") d))

@@ -1,4 +1,4 @@
--- The order of a ballot as JSON, with keys and names in place of references. All of this is the profile's own.
+-- The order of a ballot as JSON, by keys and names. All of this is the profile's own.
 use Rattle.std.specs.Prelude.{ℕ, List, Bool, true, false, if◌then◌else◌, Option, Some, None, option_and_then, map, codes}
 use Rattle.std.specs.Str.{bytes_eq}
 use Rattle.serde_json.specs.Data.{Data, array, object, Items, no_items, item, Members, no_members, member}
@@ -28,7 +28,7 @@ abbrev pub carried_in : Option Class → Members → Members
 carried_in c no_members = no_members
 carried_in c (member k d ms) = if is_carried c k then member k d (carried_in c ms) else carried_in c ms
 
--- The members of an object, or no members for any other value.
+-- The members of an object, or none.
 abbrev pub members_in : Data → Members
 members_in (object ms) = ms
 members_in d = no_members

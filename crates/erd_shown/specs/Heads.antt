@@ -1,4 +1,4 @@
--- The heads of the ballots of a report: which voters get each, and how many lines it has. All of this is the profile's own.
+-- The heads of the ballots of a report: their voters, and how many lines each has. All of this is the profile's own.
 use Rattle.std.specs.Prelude.{ℕ, pos, length, slice_get, Option, map, codes}
 use Rattle.std.specs.Option.{option_map_or}
 use Rattle.serde_json.specs.Data.{Data, null, object, Members, member}
@@ -23,6 +23,6 @@ head_data π t (key, i) d =
 abbrev pub head_in : Preference → Data → Option Key × ℕ → Data
 head_in π t (key, i) = option_map_or (λ o. head_data π t (key, i) o.value) (slice_get (objects family.Style t) i) null
 
--- The heads of all styles of a report, in the rising order of their keys.
+-- The heads of all styles, by their rising keys.
 abbrev pub heads_data : Preference → Data → Data
 heads_data π t = array_of (map (head_in π t) (rising_keys π t family.Style))

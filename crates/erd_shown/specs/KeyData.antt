@@ -19,7 +19,7 @@ abbrev pub shown_key_or_null : Option Key → Data
 shown_key_or_null None = null
 shown_key_or_null (Some k) = shown_key k
 
--- A whole number that fits 64 bits as a number, and null for any other.
+-- A whole number, or null if 64 bits do not hold it.
 abbrev pub shown_whole : ℤ → Data
 shown_whole (pos n) = if nat_lt n (2 ^ 64) then number (unsigned n) else null
 shown_whole (negsuc n) = if nat_lt n (2 ^ 63) then number (negative (negsuc n)) else null

@@ -14,6 +14,6 @@ pub mod Rows  -- the lines of two ballots beside each other
 pub mod SelectionRows  -- the selections of a contest on two ballots beside each other
 pub mod RowData  -- two ballots beside each other as JSON
 pub mod BallotDifferences  -- the styles whose ballots are not the same in two reports
-pub mod BallotLines  -- the lines that say which ballots there are, and which are not the same
+pub mod BallotLines  -- the lines that say which ballots there are, and what differs on those of two reports
 pub mod BallotLaws  -- the law that the rows of two ballots tell what differs
 pub mod code  -- what private functions answer, step by step, which a reader may skip

@@ -4,7 +4,7 @@ use Rattle.std.specs.Str.{bytes_eq}
 use Rattle.serde_json.specs.Data.{Data, array, object, Items, no_items, item, Members, no_members, member}
 use Rattle.erd_meaning.specs.Records.{class_of_node, is_header_class}
 
--- The lines of a list of contests and headers, at every depth of headers: how many headers stand around each, and the node.
+-- The lines of a list, at every depth of headers: how many headers stand around each, and the node.
 abbrev mutual
   pub content_lines : ℕ → Data → List (ℕ × Data)
   content_lines depth (array ds) = nodes_lines depth ds

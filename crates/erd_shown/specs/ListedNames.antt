@@ -12,7 +12,7 @@ use Rattle.erd_meaning.specs.NameParts.{NameParts}
 use Rattle.erd_meaning.specs.Objects.{owner}
 use Rattle.erd_meaning.specs.SelectionNames.{name_cmp, name_named, name_of}
 
--- The references to the selections that a ballot lists for a contest.
+-- The references to selections that a ballot lists.
 abbrev pub listed_at : Data → List Data
 listed_at d = entries_at (codes "OrderedContestSelectionIds") d
 

@@ -1,18 +1,17 @@
 -- Ballots with other words in another report. Objects of the two reports are one if they have one key. All of this is the
 -- profile's own.
-use Rattle.std.specs.Prelude.{ℕ, List, Bool, false, not, ◌||◌, if◌then◌else◌, Option, option_and_then, option_map, find, map, codes}
-use Rattle.std.specs.List.{filter_map, list_any}
+use Rattle.std.specs.Prelude.{ℕ, List, Bool, false, not, ◌||◌, if◌then◌else◌, Option, option_and_then, option_map, codes}
+use Rattle.std.specs.List.{list_any}
 use Rattle.std.specs.Option.{option_map_or}
-use Rattle.std.specs.Ordering.{eq_by_cmp}
 use Rattle.std.specs.Str.{bytes_eq}
 use Rattle.serde_json.specs.Data.{Data}
 use Rattle.serde_json.specs.Find.{as_str}
 use Rattle.erd_tables.specs.declared.class.Family.{Family}
 use Rattle.erd_tables.specs.declared.class.Family.TheVariants as family
 use Rattle.erd_check.specs.Values.{entries_at, text_at}
-use Rattle.erd_meaning.specs.Keys.{Preference, key_cmp, key_of}
-use Rattle.erd_meaning.specs.Objects.{Placed, objects, owner}
-use Rattle.erd_meaning.specs.Records.{class_of_node, is_header_class}
+use Rattle.erd_meaning.specs.Keys.{Preference, key_of}
+use Rattle.erd_meaning.specs.Objects.{owner}
+use Rattle.erd_meaning.specs.Records.{class_of_node, is_header_class, placed_with_key}
 use Rattle.erd_meaning.specs.declared.keys.key.Key.{Key}
 use Rattle.erd_shown.specs.Ballots.{lines_of}
 use Rattle.erd_shown.specs.ListedNames.{listed_at, lists_selections, selections_named}
@@ -30,19 +29,15 @@ true_of_any_named P t f rs = list_any (λ r. option_map_or P (option_and_then (o
 
 -- ---- objects
 
--- True if the object has the key.
-abbrev pub has_key : Preference → Key → Placed → Bool
-has_key π k o = option_map_or (eq_by_cmp key_cmp k) (key_of π o.value) false
-
 -- The object of the family that has the key, or none.
 abbrev pub with_key : Preference → Data → Family → Key → Option Data
-with_key π t f k = option_map (λ o. o.value) (find (has_key π k) (objects f t))
+with_key π t f k = option_map (λ o. o.value) (placed_with_key π t f k)
 
 -- True if ballots print other words of these two objects of the family.
 abbrev pub has_other_words : Preference → Data → Preference → Data → Family → Data → Data → Bool
 has_other_words π t ρ u f d e = not (bytes_eq (words_text π t f d) (words_text ρ u f e))
 
--- True if the other report has the object too, and other words of it.
+-- True if the other report has other words of the object.
 abbrev pub is_reworded : Preference → Data → Preference → Data → Family → Data → Bool
 is_reworded π t ρ u f d = option_map_or (λ k. option_map_or (has_other_words π t ρ u f d) (with_key ρ u f k) false) (key_of π d) false
 

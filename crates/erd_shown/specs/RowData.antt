@@ -18,7 +18,7 @@ use Rattle.erd_shown.specs.SelectionRows.{AreSelectionsAt, Beside, IsInside, row
 use Rattle.erd_shown.specs.declared.rows.Row.{Row}
 use Rattle.erd_shown.specs.declared.rows.Row.TheVariants.{Both, Removed, Added, MovedAway, MovedHere}
 
--- The position of a line in its ballot, or null.
+-- A position, or null.
 abbrev pub number_or_null : Option ℕ → Data
 number_or_null None = null
 number_or_null (Some i) = shown_whole (pos i)
@@ -47,9 +47,15 @@ row_data (MovedHere i j, b) = row_of (codes "moved here") (Some i) (Some j) b
 abbrev pub thing_cmp : Bool × Option Key → Bool × Option Key → Ordering
 thing_cmp a b = ordering_then (bool_cmp a.0 b.0) (option_cmp key_cmp a.1 b.1)
 
--- What the lines of the ballot of a style are, in their order.
+-- What the lines of a ballot are, in their order.
 abbrev pub things_of : Preference → Data → Data → List (Bool × Option Key)
 things_of π t d = map (λ l. thing_at π t l.1) (lines_of d)
+
+-- The rows have each line of the ballots of two styles once, in the order of its ballot.
+abbrev pub AreLineRows : Preference → Data → Data → Preference → Data → Data → List Row → Type 0
+AreLineRows π t d ρ u e rows =
+    let same = eq_by_cmp thing_cmp in
+    AreRows (partners same (things_of π t d) (things_of ρ u e)) (partners same (things_of ρ u e) (things_of π t d)) rows
 
 -- The rows, as the last member of an object.
 abbrev pub rows_members : List (Row × Beside) → Members
@@ -63,7 +69,7 @@ beside_data left right rows = object (member (codes "left") left (member (codes 
 -- and so do the selections inside it; what a ballot lists several times is told apart by the number of the occurrence.
 pub record AreBeside (π : Preference) (t d : Data) (ρ : Preference) (u e : Data) (told : Data) : Type 0 where
   pub rows : List (Row × Beside)
-  pub are_rows : AreRows (partners (eq_by_cmp thing_cmp) (things_of π t d) (things_of ρ u e)) (partners (eq_by_cmp thing_cmp) (things_of ρ u e) (things_of π t d)) (map (λ r. r.0) rows)
+  pub are_rows : AreLineRows π t d ρ u e (map (λ r. r.0) rows)
   pub inside : AllByRecursion (IsInside (AreSelectionsAt π t (lines_of d) ρ u (lines_of e))) rows
   pub tells : told ≡ beside_data (lines_data π t d) (lines_data ρ u e) rows
 
@@ -73,7 +79,7 @@ AreBesideIf π t (Some d) ρ u (Some e) told = AreBeside π t d ρ u e told
 AreBesideIf π t (Some d) ρ u None told = told ≡ null
 AreBesideIf π t None ρ u o told = told ≡ null
 
--- The style at this position of the report, or none.
+-- The style at this position, or none.
 abbrev pub style_in : Data → ℕ → Option Data
 style_in t i = option_map (λ o. o.value) (slice_get (objects family.Style t) i)
 

@@ -12,7 +12,7 @@ use Rattle.erd_shown.specs.Rows.{AreRows}
 use Rattle.erd_shown.specs.declared.rows.Row.{Row}
 use Rattle.erd_shown.specs.declared.rows.Row.TheVariants.{Both, Removed, Added, MovedAway, MovedHere}
 
--- The names of the selections of a contest on both ballots, and rows of them.
+-- The names on both ballots, and rows of them.
 pub record Beside : Type 0 where
   pub lefts : List NameParts
   pub rights : List NameParts

@@ -12,7 +12,6 @@ use Rattle.erd_tables.specs.declared.class.Family.TheVariants as family
 use Rattle.erd_tables.specs.declared.class.Role.{Role}
 use Rattle.erd_tables.specs.declared.member.MemberKind.{MemberKind}
 use Rattle.erd_tables.specs.declared.member.MemberKind.TheVariants as kind
-use Rattle.erd_check.specs.Faults.{is_empty_array}
 use Rattle.erd_check.specs.Values.{entries_of}
 use Rattle.erd_check.specs.Wants.{class_of_object}
 use Rattle.erd_text.specs.RisingLists.{compact_cmp, rising_list, with_rising_text}
@@ -20,7 +19,7 @@ use Rattle.erd_meaning.specs.Keys.{Preference, key_cmp}
 use Rattle.erd_meaning.specs.Lookups.{election_key_of}
 use Rattle.erd_meaning.specs.NameParts.{NameParts}
 use Rattle.erd_meaning.specs.Objects.{Placed, objects_with_role, report_of}
-use Rattle.erd_meaning.specs.Records.{is_in_envelope}
+use Rattle.erd_meaning.specs.Records.{is_in_envelope, unless_empty}
 use Rattle.erd_meaning.specs.SelectionNames.{key_named, keys_named, name_cmp, name_of, selection_role}
 use Rattle.erd_meaning.specs.declared.keys.key.Key.{Key}
 use Rattle.serde_json.specs.Find.{get}
@@ -29,10 +28,6 @@ use Rattle.erd_shown.specs.KeyData.{array_of, shown_key, shown_key_or_null, show
 use Rattle.erd_shown.specs.ContentData.{members_in, content_data}
 
 -- ---- values
-
--- The second value, or none if the first one is an empty array.
-abbrev pub unless_no_entry : Data → Data → Option Data
-unless_no_entry d v = if is_empty_array d then None else Some v
 
 -- The keys of what a set of references names, as an array in rising order.
 abbrev pub keys_data : Preference → Data → Family → List Data → Data
@@ -50,10 +45,10 @@ shown_value π t kind.Whole d = Some d
 shown_value π t kind.Carried d = Some d
 shown_value π t kind.Label d = Some (with_rising_text d)
 shown_value π t (kind.One f) d = Some (shown_key_or_null (option_and_then (key_named π t f) (as_str d)))
-shown_value π t (kind.Many f) d = unless_no_entry d (keys_data π t f (entries_of d))
-shown_value π t kind.Identifiers d = unless_no_entry d (set_data (entries_of d))
-shown_value π t kind.Languages d = unless_no_entry d (set_data (entries_of d))
-shown_value π t kind.Content d = unless_no_entry d (content_data π t d)
+shown_value π t (kind.Many f) d = unless_empty (keys_data π t f (entries_of d)) d
+shown_value π t kind.Identifiers d = unless_empty (set_data (entries_of d)) d
+shown_value π t kind.Languages d = unless_empty (set_data (entries_of d)) d
+shown_value π t kind.Content d = unless_empty (content_data π t d) d
 shown_value π t k d = None
 
 -- What a member of an object of the class means as JSON, or none if it means nothing by itself.
@@ -88,7 +83,7 @@ shown_selections π t ds = array_of (map (selection_record_data π t) (rising_li
 
 -- What a member of this kind means as JSON, in an object that is no selection. `hidden` is true in the envelope.
 abbrev pub shown_in : Preference → Data → (hidden : Bool) → MemberKind → Data → Option Data
-shown_in π t hidden (kind.Keyed family.Selection) d = unless_no_entry d (shown_selections π t (entries_of d))
+shown_in π t hidden (kind.Keyed family.Selection) d = unless_empty (shown_selections π t (entries_of d)) d
 shown_in π t hidden k d = if hidden then None else shown_value π t k d
 
 -- What a member of an object of the class means as JSON, if the object is no selection.

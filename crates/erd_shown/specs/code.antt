@@ -9,3 +9,4 @@ pub mod Marks
 pub mod BesideWritten
 pub mod LentNames
 pub mod SelectionsFound
+pub mod Pairs

@@ -1,37 +1,25 @@
-ghost use Rattle.std.specs.Prelude.{◌≡◌, ◌++◌, ◌&&◌, not, map, Some, option_map, option_to_list, slice_get, string_bytes, IfOk, OnOk};
+ghost use Rattle.std.specs.Prelude.{◌≡◌, ◌++◌, ◌&&◌, not, map, Some, option_map, option_to_list, slice_get, IfOk, OnOk};
 ghost use Rattle.std.specs.List.{filter_map};
 ghost use Rattle.serde_json.specs.View.{view};
-ghost use Rattle.serde_json.specs.Written.{compact_text};
-ghost use Rattle.erd_text.specs.Tokens.{members_tokens, value_tokens};
-ghost use Rattle.erd_shown.specs.BallotDifferences.{AreBallotDifferences, AreStyleRows, has_same_lines, has_same_selections, is_reworded_at, is_same_ballot, of_style, right_members, style_data, styles_data, told_of_both, told_of_left, told_of_right, told_of_row};
+ghost use Rattle.erd_shown.specs.BallotDifferences.{AreBallotDifferences, AreStyleRows, has_same_lines, has_same_selections, is_reworded_at, is_same_ballot};
+ghost use Rattle.erd_shown.specs.BallotDifferences.{of_style, told_of_both, told_of_left, told_of_right, told_of_row};
 ghost use Rattle.erd_shown.specs.code.LineLists.{of_place};
 ghost use Rattle.erd_shown.specs.code.Marks.{AreMarks};
 
 use crate::ballots::ballot_text;
 use crate::beside::rows_between;
-use crate::keys::write_key_or_null;
-use crate::marks::{Marks, marks_between};
+use crate::marks::marks_between;
+use crate::pairs::Pair;
 use crate::reworded::is_same_text;
 use crate::reworded_lines::is_ballot_reworded;
-use crate::row_texts::write_place;
 use crate::rows::Row;
 use crate::selection_words::selections_text;
-use crate::texts::text_of;
 use erd_meaning::{Key, Report};
 use erd_tables::Family;
-use erd_text::Output;
 use std::alloc::{AllocError, Global};
 
 /// A style: its key, and its position in its report.
 type Place<'a> = (Option<&'a Key>, usize);
-
-/// Two reports, and the objects of which ballots print other words in the right one.
-#[derive(Drop)]
-struct Pair<'a, 'l, 'r> {
-    left: &'a Report<'l>,
-    right: &'a Report<'r>,
-    marks: Marks,
-}
 
 /// A style whose ballots are not the same in two reports.
 #[derive(Clone, Copy, Debug, PartialEq, Eq)]
@@ -63,7 +51,8 @@ pub fn differing_ballots<'a>(
     left: &'a Report,
     right: &'a Report,
 ) -> Result<Vec<BallotDifference<'a>>, AllocError>
-    ensures { IfOk result (λ found. AreBallotDifferences left.now.prefer (view left.now.tree) right.now.prefer (view right.now.tree) (map of_style found.items)) }
+    ensures { IfOk result (λ found. AreBallotDifferences left.now.prefer (view left.now.tree) right.now.prefer (view right.now.tree)
+        (map of_style found.items)) }
 {
     let ones = left.rising_keys(alloc, Family::Style)?;
     let others = right.rising_keys(alloc, Family::Style)?;
@@ -71,28 +60,6 @@ pub fn differing_ballots<'a>(
     let marks = marks_between(alloc, left, right)?;
     let pair = Pair { left, right, marks };
     told_of_rows(alloc, &pair, &ones, &others, &rows)
-}
-
-/// Returns styles whose ballots are not the same as compact JSON: of each its key, and its position in the left report and in
-/// the right one. A style that only one report has is told with null for the other.
-///
-/// # Errors
-///
-/// `AllocError` if out of memory.
-///
-/// ```
-/// let text = ballot_differences_text(alloc, &differing_ballots(alloc, report, report)?)?;
-/// assert_eq!(rt; text.as_str(), "[]");
-/// ```
-pub fn ballot_differences_text(
-    alloc: Global,
-    found: &[BallotDifference],
-) -> Result<String, AllocError>
-    ensures { IfOk result (λ text. string_bytes text ≡ compact_text (styles_data (map of_style found.now))) }
-{
-    let mut out = Output::new(alloc);
-    write_styles(found, &mut out)?;
-    text_of(out)
 }
 
 /// Returns rows of the styles of two reports, by their keys.
@@ -125,7 +92,9 @@ fn told_of_rows<'a>(
 ) -> Result<Vec<BallotDifference<'a>>, AllocError>
     requires marks { AreMarks pair.now.left.now.prefer (view pair.now.left.now.tree) pair.now.right.now.prefer (view pair.now.right.now.tree) pair.now.marks }
     ensures { IfOk result (λ found. map of_style found.items
-        ≡ filter_map (told_of_row (is_same_ballot pair.now.left.now.prefer (view pair.now.left.now.tree) pair.now.right.now.prefer (view pair.now.right.now.tree)) (map of_place ones.now) (map of_place others.now)) rows.now) }
+        ≡ filter_map
+        (told_of_row (is_same_ballot pair.now.left.now.prefer (view pair.now.left.now.tree) pair.now.right.now.prefer (view pair.now.right.now.tree))
+        (map of_place ones.now) (map of_place others.now)) rows.now) }
 {
     let mut found = Vec::new(alloc);
     for row in rows {
@@ -158,7 +127,8 @@ fn told_of_row<'a>(
 ) -> Result<Option<BallotDifference<'a>>, AllocError>
     requires marks { AreMarks pair.now.left.now.prefer (view pair.now.left.now.tree) pair.now.right.now.prefer (view pair.now.right.now.tree) pair.now.marks }
     ensures { IfOk result (λ found. option_map of_style found
-        ≡ told_of_row (is_same_ballot pair.now.left.now.prefer (view pair.now.left.now.tree) pair.now.right.now.prefer (view pair.now.right.now.tree)) (map of_place ones.now) (map of_place others.now) row.now) }
+        ≡ told_of_row (is_same_ballot pair.now.left.now.prefer (view pair.now.left.now.tree) pair.now.right.now.prefer (view pair.now.right.now.tree))
+        (map of_place ones.now) (map of_place others.now) row.now) }
 {
     match *row {
         Row::Both(one, other) => {
@@ -193,7 +163,8 @@ fn told_of_both<'a>(
 ) -> Result<Option<BallotDifference<'a>>, AllocError>
     requires marks { AreMarks pair.now.left.now.prefer (view pair.now.left.now.tree) pair.now.right.now.prefer (view pair.now.right.now.tree) pair.now.marks }
     ensures { IfOk result (λ found. option_map of_style found
-        ≡ told_of_both (is_same_ballot pair.now.left.now.prefer (view pair.now.left.now.tree) pair.now.right.now.prefer (view pair.now.right.now.tree)) (option_map of_place one.entry) (option_map of_place other.entry)) }
+        ≡ told_of_both (is_same_ballot pair.now.left.now.prefer (view pair.now.left.now.tree) pair.now.right.now.prefer (view pair.now.right.now.tree))
+        (option_map of_place one.entry) (option_map of_place other.entry)) }
 {
     match one {
         Some(one) => match other {
@@ -213,7 +184,8 @@ fn told_of_pair<'a>(
 ) -> Result<Option<BallotDifference<'a>>, AllocError>
     requires marks { AreMarks pair.now.left.now.prefer (view pair.now.left.now.tree) pair.now.right.now.prefer (view pair.now.right.now.tree) pair.now.marks }
     ensures { IfOk result (λ found. option_map of_style found
-        ≡ told_of_both (is_same_ballot pair.now.left.now.prefer (view pair.now.left.now.tree) pair.now.right.now.prefer (view pair.now.right.now.tree)) (Some (of_place one.entry)) (Some (of_place other.entry))) }
+        ≡ told_of_both (is_same_ballot pair.now.left.now.prefer (view pair.now.left.now.tree) pair.now.right.now.prefer (view pair.now.right.now.tree))
+        (Some (of_place one.entry)) (Some (of_place other.entry))) }
 {
     if is_same_ballot(alloc, pair, one.1, other.1)? {
         Ok(None)
@@ -229,7 +201,8 @@ fn told_of_pair<'a>(
 /// Returns whether the ballots of the styles at two positions are the same.
 fn is_same_ballot(alloc: Global, pair: &Pair, one: usize, other: usize) -> Result<bool, AllocError>
     requires marks { AreMarks pair.now.left.now.prefer (view pair.now.left.now.tree) pair.now.right.now.prefer (view pair.now.right.now.tree) pair.now.marks }
-    ensures { IfOk result (λ same. same ≡ is_same_ballot pair.now.left.now.prefer (view pair.now.left.now.tree) pair.now.right.now.prefer (view pair.now.right.now.tree) one other) }
+    ensures { IfOk result (λ same. same ≡ is_same_ballot pair.now.left.now.prefer (view pair.now.left.now.tree) pair.now.right.now.prefer
+        (view pair.now.right.now.tree) one other) }
 {
     let lines = has_same_lines(alloc, pair.left, one, pair.right, other)?;
     let selections = has_same_selections(alloc, pair.left, one, pair.right, other)?;
@@ -277,7 +250,8 @@ fn has_same_selections(
 /// Returns whether the ballot of the style at a position of the left report prints other words in the right one.
 fn is_reworded_at(alloc: Global, pair: &Pair, position: usize) -> Result<bool, AllocError>
     requires marks { AreMarks pair.now.left.now.prefer (view pair.now.left.now.tree) pair.now.right.now.prefer (view pair.now.right.now.tree) pair.now.marks }
-    ensures { IfOk result (λ it. it ≡ is_reworded_at pair.now.left.now.prefer (view pair.now.left.now.tree) pair.now.right.now.prefer (view pair.now.right.now.tree) position) }
+    ensures { IfOk result (λ it. it ≡ is_reworded_at pair.now.left.now.prefer (view pair.now.left.now.tree) pair.now.right.now.prefer
+        (view pair.now.right.now.tree) position) }
 {
     match pair.left.object(Family::Style, position) {
         Some(style) => is_ballot_reworded(alloc, pair.left, style, pair.right, &pair.marks),
@@ -307,36 +281,4 @@ fn told_of_right<'a>(other: Option<Place<'a>>) -> Option<BallotDifference<'a>>
         left: None,
         right: Some(index),
     })
-}
-
-/// Writes styles as an array.
-fn write_styles(styles: &[BallotDifference], out: &mut Output) -> Result<(), AllocError>
-    ensures { OnOk result (out.new ≡ out.old ++ value_tokens (styles_data (map of_style styles.now))) }
-{
-    out.begin_array()?;
-    for style in styles {
-        write_style(style, out)?;
-    }
-    out.end_array()
-}
-
-/// Writes a style: its key, and its positions.
-fn write_style(style: &BallotDifference, out: &mut Output) -> Result<(), AllocError>
-    ensures { OnOk result (out.new ≡ out.old ++ value_tokens (style_data (of_style style.now))) }
-{
-    out.begin_object()?;
-    out.key("key")?;
-    write_key_or_null(style.key, out)?;
-    out.key("left")?;
-    write_place(style.left, out)?;
-    write_right(style.right, out)
-}
-
-/// Writes the position in the right report, and the end of the object.
-fn write_right(place: Option<usize>, out: &mut Output) -> Result<(), AllocError>
-    ensures { OnOk result (out.new ≡ out.old ++ members_tokens (right_members place)) }
-{
-    out.key("right")?;
-    write_place(place, out)?;
-    out.end_object()
 }

@@ -1,12 +1,10 @@
-ghost use Rattle.std.specs.Prelude.{◌≡◌, ◌++◌, ◌∷◌, [], map, decimal, codes, string_bytes, IfOk, OnOk, option_copied, option_map};
+ghost use Rattle.std.specs.Prelude.{◌≡◌, ◌++◌, ◌∷◌, [], map, decimal, codes, string_bytes, IfOk, OnOk, option_copied};
 ghost use Rattle.serde_json.specs.View.{view};
 ghost use Rattle.serde_json.specs.Written.{compact_text};
-ghost use Rattle.erd_shown.specs.BallotDifferences.{of_style};
-ghost use Rattle.erd_shown.specs.BallotLines.{ballot_line, count_at, found_line, found_lines, head_line, head_lines, key_words, lines_text, side_words};
+ghost use Rattle.erd_shown.specs.BallotLines.{ballot_line, count_at, head_line, head_lines, key_words, lines_text};
 ghost use Rattle.erd_shown.specs.KeyData.{shown_key};
 ghost use Rattle.erd_shown.specs.code.LineLists.{of_place};
 
-use crate::ballot_differences::BallotDifference;
 use crate::ballots::lines_of;
 use crate::keys::write_key;
 use crate::texts::text_of;
@@ -73,56 +71,8 @@ fn count_at(alloc: Global, report: &Report, position: usize) -> Result<usize, Al
     }
 }
 
-/// Returns a line for each style whose ballots are not the same, or the line `same ballots` if there are none: the word `ballot`,
-/// the key as compact JSON, and which report has the style alone, or `differs`. Each line is ended by one line feed.
-///
-/// # Errors
-///
-/// `AllocError` if out of memory.
-///
-/// ```
-/// let text = ballot_differences_lines(alloc, &differing_ballots(alloc, report, report)?)?;
-/// assert_eq!(rt; text.as_str(), "same ballots\n");
-/// ```
-pub fn ballot_differences_lines(
-    alloc: Global,
-    found: &[BallotDifference],
-) -> Result<String, AllocError>
-    ensures { IfOk result (λ text. string_bytes text ≡ lines_text (found_lines (map of_style found.now))) }
-{
-    if found.is_empty() {
-        return String::from_str(alloc, "same ballots\n");
-    }
-    lines_found(alloc, found)
-}
-
-/// Returns a line for each style whose ballots are not the same.
-fn lines_found(alloc: Global, found: &[BallotDifference]) -> Result<String, AllocError>
-    ensures { IfOk result (λ text. string_bytes text ≡ lines_text (map (λ s. found_line (of_style s)) found.now)) }
-{
-    let mut text = String::new(alloc);
-    for style in found {
-        let words = side_words(style.left, style.right);
-        push_line(alloc, style.key, words, &mut text)?;
-    }
-    Ok(text)
-}
-
-/// Returns the words for a style whose ballots are not the same.
-fn side_words(left: Option<usize>, right: Option<usize>) -> &'static str
-    ensures { result.now ≡ side_words left right }
-{
-    match right {
-        None => "only in the left report",
-        Some(_) => match left {
-            None => "only in the right report",
-            Some(_) => "differs",
-        },
-    }
-}
-
 /// Appends the line of a ballot with these words.
-fn push_line(
+pub(crate) fn push_line(
     alloc: Global,
     key: Option<&Key>,
     words: &str,
@@ -137,7 +87,7 @@ fn push_line(
 }
 
 /// Returns a space and the key as compact JSON, or the empty text if there is no key.
-fn key_words(alloc: Global, key: Option<&Key>) -> Result<String, AllocError>
+pub(crate) fn key_words(alloc: Global, key: Option<&Key>) -> Result<String, AllocError>
     ensures { IfOk result (λ words. string_bytes words ≡ key_words (option_copied key.entry)) }
 {
     match key {

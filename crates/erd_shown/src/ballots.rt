@@ -70,7 +70,8 @@ fn write_style(
     style: &Value,
     out: &mut Output,
 ) -> Result<(), AllocError>
-    ensures { OnOk result (out.new ≡ out.old ++ value_tokens (keyed_ballot report.now.prefer (view report.now.tree) (option_copied key.entry) (view style.now))) }
+    ensures { OnOk result (out.new ≡ out.old ++ value_tokens
+        (keyed_ballot report.now.prefer (view report.now.tree) (option_copied key.entry) (view style.now))) }
 {
     out.begin_object()?;
     out.key("key")?;
@@ -106,7 +107,8 @@ fn write_keys_at(
     out: &mut Output,
 ) -> Result<(), AllocError>
     requires keyed { has_keys family ≡ true }
-    ensures { OnOk result (out.new ≡ out.old ++ value_tokens (keys_data report.now.prefer (view report.now.tree) family (entries_at name.now (view style.now)))) }
+    ensures { OnOk result (out.new ≡ out.old ++ value_tokens
+        (keys_data report.now.prefer (view report.now.tree) family (entries_at name.now (view style.now)))) }
 {
     write_reference_set(alloc, report, family, entries_at(style, name), out)
 }

@@ -24,7 +24,7 @@ use serde_json::Value;
 use std::alloc::{AllocError, Global};
 
 /// What a line is: whether it is a header, and its key.
-type Thing<'a> = (bool, Option<&'a Key>);
+pub(crate) type Thing<'a> = (bool, Option<&'a Key>);
 
 /// Writes the ballots of two styles beside each other, as JSON: the lines of both, and rows with the positions of lines. Each
 /// line of either ballot stands in one row, in its order. A row is of a line of both, of a line of one, or of a line that
@@ -45,7 +45,8 @@ pub fn write_ballots_beside(
     other: &Value,
     out: &mut Output,
 ) -> Result<(), AllocError>
-    ensures { OnOk result ((told : Data) × AreBeside left.now.prefer (view left.now.tree) (view style.now) right.now.prefer (view right.now.tree) (view other.now) told × (out.new ≡ out.old ++ value_tokens told)) }
+    ensures { OnOk result ((told : Data) × AreBeside left.now.prefer (view left.now.tree) (view style.now) right.now.prefer (view right.now.tree)
+        (view other.now) told × (out.new ≡ out.old ++ value_tokens told)) }
 {
     let ones = lines_of(alloc, style)?;
     let others = lines_of(alloc, other)?;
@@ -60,7 +61,7 @@ pub fn write_ballots_beside(
 }
 
 /// Returns rows of lines, each with the selections inside it.
-fn with_selections<'a>(
+pub(crate) fn with_selections<'a>(
     alloc: Global,
     left: &'a Report,
     ones: &[Line],
@@ -70,7 +71,8 @@ fn with_selections<'a>(
 ) -> Result<Vec<(Row, SelectionRows<'a>)>, AllocError>
     ensures rows { IfOk result (λ found. map (λ r. r.0) found.items ≡ rows.now) }
     ensures inside { IfOk result (λ found. AllByRecursion
-        (IsInside (AreSelectionsAt left.now.prefer (view left.now.tree) (map of_line ones.now) right.now.prefer (view right.now.tree) (map of_line others.now))) (map of_row found.items)) }
+        (IsInside (AreSelectionsAt left.now.prefer (view left.now.tree) (map of_line ones.now) right.now.prefer (view right.now.tree) (map of_line others.now)))
+        (map of_row found.items)) }
 {
     let mut found = Vec::new(alloc);
     for row in rows {
@@ -90,7 +92,8 @@ fn selections_of_row<'a>(
     row: &Row,
 ) -> Result<SelectionRows<'a>, AllocError>
     ensures { IfOk result (λ found. IsInside
-        (AreSelectionsAt left.now.prefer (view left.now.tree) (map of_line ones.now) right.now.prefer (view right.now.tree) (map of_line others.now)) (row.now, of_selections found)) }
+        (AreSelectionsAt left.now.prefer (view left.now.tree) (map of_line ones.now) right.now.prefer (view right.now.tree) (map of_line others.now))
+        (row.now, of_selections found)) }
 {
     match *row {
         Row::Both(one, other) => {
@@ -108,7 +111,7 @@ fn selections_of_row<'a>(
 }
 
 /// Returns the line at a position, if there is one.
-fn line_in<'a>(lines: &[Line<'a>], position: usize) -> Option<Line<'a>>
+pub(crate) fn line_in<'a>(lines: &[Line<'a>], position: usize) -> Option<Line<'a>>
     ensures { result ≡ slice_get lines.now position }
 {
     lines.get(position).copied()
@@ -135,7 +138,7 @@ fn selections_at<'a>(
 }
 
 /// Returns the rows of lines of two ballots.
-fn rows_of_lines(
+pub(crate) fn rows_of_lines(
     alloc: Global,
     left: &Report,
     ones: &[Line],
@@ -144,7 +147,8 @@ fn rows_of_lines(
 ) -> Result<Vec<Row>, AllocError>
     ensures { IfOk result (λ rows. AreRows
         (partners (eq_by_cmp thing_cmp) (things_in left.now.prefer (view left.now.tree) ones.now) (things_in right.now.prefer (view right.now.tree) others.now))
-        (partners (eq_by_cmp thing_cmp) (things_in right.now.prefer (view right.now.tree) others.now) (things_in left.now.prefer (view left.now.tree) ones.now)) rows.items) }
+        (partners (eq_by_cmp thing_cmp) (things_in right.now.prefer (view right.now.tree) others.now) (things_in left.now.prefer (view left.now.tree) ones.now))
+        rows.items) }
 {
     let left_things = things_at(alloc, left, ones)?;
     let right_things = things_at(alloc, right, others)?;

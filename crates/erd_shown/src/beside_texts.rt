@@ -45,7 +45,8 @@ fn write_beside_at(
     other: usize,
     out: &mut Output,
 ) -> Result<(), AllocError>
-    ensures { OnOk result (WritesBesideIf left.now.prefer (view left.now.tree) (style_in (view left.now.tree) one) right.now.prefer (view right.now.tree) (style_in (view right.now.tree) other) out.old out.new) }
+    ensures { OnOk result (WritesBesideIf left.now.prefer (view left.now.tree) (style_in (view left.now.tree) one) right.now.prefer (view right.now.tree)
+        (style_in (view right.now.tree) other) out.old out.new) }
 {
     let one = left.object(Family::Style, one);
     let other = right.object(Family::Style, other);
@@ -61,7 +62,8 @@ fn write_beside_if(
     other: Option<&Value>,
     out: &mut Output,
 ) -> Result<(), AllocError>
-    ensures { OnOk result (WritesBesideIf left.now.prefer (view left.now.tree) (option_map (λ v. view v.now) one.entry) right.now.prefer (view right.now.tree) (option_map (λ v. view v.now) other.entry) out.old out.new) }
+    ensures { OnOk result (WritesBesideIf left.now.prefer (view left.now.tree) (option_map (λ v. view v.now) one.entry) right.now.prefer (view right.now.tree)
+        (option_map (λ v. view v.now) other.entry) out.old out.new) }
 {
     match one {
         Some(one) => match other {

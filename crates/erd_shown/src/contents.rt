@@ -6,7 +6,8 @@ ghost use Rattle.erd_check.specs.Values.{entries_at};
 ghost use Rattle.erd_text.specs.Tokens.{items_tokens, members_tokens, value_tokens};
 ghost use Rattle.erd_meaning.specs.Records.{class_of_node, is_header_class};
 ghost use Rattle.erd_shown.specs.KeyData.{array_of};
-ghost use Rattle.erd_shown.specs.ContentData.{carried_data, carried_in, content_data, contest_data, header_data, inside_data, is_carried, members_in, node_data, nodes_data, shown_name_named};
+ghost use Rattle.erd_shown.specs.ContentData.{carried_data, carried_in, content_data, contest_data, header_data, inside_data, is_carried, members_in};
+ghost use Rattle.erd_shown.specs.ContentData.{node_data, nodes_data, shown_name_named};
 ghost use Rattle.erd_shown.specs.code.Writing.{member_if};
 
 use crate::lookups::name_named;
@@ -26,7 +27,8 @@ pub(crate) fn write_content(
     value: &Value,
     out: &mut Output,
 ) -> Result<(), AllocError>
-    ensures { OnOk result (has_float (view value.now) ≡ false → out.new ≡ out.old ++ value_tokens (content_data report.now.prefer (view report.now.tree) (view value.now))) }
+    ensures { OnOk result (has_float (view value.now) ≡ false → out.new ≡ out.old
+        ++ value_tokens (content_data report.now.prefer (view report.now.tree) (view value.now))) }
 {
     out.begin_array()?;
     match value {
@@ -38,7 +40,8 @@ pub(crate) fn write_content(
 /// Writes the contests and headers of an array, and its end.
 #[cycle(content)]
 fn write_nodes(report: &Report, items: &Vec<Value>, out: &mut Output) -> Result<(), AllocError>
-    ensures { OnOk result (items_have_float (items_view items.now.items) ≡ false → out.new ≡ out.old ++ items_tokens (nodes_data report.now.prefer (view report.now.tree) (items_view items.now.items))) }
+    ensures { OnOk result (items_have_float (items_view items.now.items) ≡ false → out.new ≡ out.old
+        ++ items_tokens (nodes_data report.now.prefer (view report.now.tree) (items_view items.now.items))) }
 {
     for item in items {
         write_node(report, item, out)?;
@@ -49,7 +52,8 @@ fn write_nodes(report: &Report, items: &Vec<Value>, out: &mut Output) -> Result<
 /// Writes a contest or a header.
 #[cycle(content)]
 fn write_node(report: &Report, value: &Value, out: &mut Output) -> Result<(), AllocError>
-    ensures { OnOk result (has_float (view value.now) ≡ false → out.new ≡ out.old ++ value_tokens (node_data report.now.prefer (view report.now.tree) (view value.now))) }
+    ensures { OnOk result (has_float (view value.now) ≡ false → out.new ≡ out.old
+        ++ value_tokens (node_data report.now.prefer (view report.now.tree) (view value.now))) }
 {
     if is_header(value) {
         write_header(report, value, out)
@@ -62,7 +66,10 @@ fn write_node(report: &Report, value: &Value, out: &mut Output) -> Result<(), Al
 #[cycle(content)]
 fn write_header(report: &Report, value: &Value, out: &mut Output) -> Result<(), AllocError>
     ensures { OnOk result (has_float (view value.now) ≡ false
-        → out.new ≡ out.old ++ value_tokens (header_data report.now.prefer (view report.now.tree) (view value.now) (inside_data report.now.prefer (view report.now.tree) (members_in (view value.now))))) }
+        → out.new ≡ out.old
+        ++ value_tokens
+        (header_data report.now.prefer (view report.now.tree) (view value.now)
+        (inside_data report.now.prefer (view report.now.tree) (members_in (view value.now))))) }
 {
     out.begin_object()?;
     out.key("carried")?;
@@ -77,7 +84,8 @@ fn write_header(report: &Report, value: &Value, out: &mut Output) -> Result<(), 
 /// Writes what stands inside a header.
 #[cycle(content)]
 fn write_inside(report: &Report, value: &Value, out: &mut Output) -> Result<(), AllocError>
-    ensures { OnOk result (has_float (view value.now) ≡ false → out.new ≡ out.old ++ value_tokens (inside_data report.now.prefer (view report.now.tree) (members_in (view value.now)))) }
+    ensures { OnOk result (has_float (view value.now) ≡ false → out.new ≡ out.old
+        ++ value_tokens (inside_data report.now.prefer (view report.now.tree) (members_in (view value.now)))) }
 {
     match value.get("OrderedContent") {
         Some(content) => write_content(report, content, out),
@@ -95,7 +103,8 @@ pub(crate) fn write_nothing(out: &mut Output) -> Result<(), AllocError>
 
 /// Writes a contest.
 fn write_contest(report: &Report, value: &Value, out: &mut Output) -> Result<(), AllocError>
-    ensures { OnOk result (has_float (view value.now) ≡ false → out.new ≡ out.old ++ value_tokens (contest_data report.now.prefer (view report.now.tree) (view value.now))) }
+    ensures { OnOk result (has_float (view value.now) ≡ false → out.new ≡ out.old
+        ++ value_tokens (contest_data report.now.prefer (view report.now.tree) (view value.now))) }
 {
     out.begin_object()?;
     out.key("carried")?;
@@ -109,14 +118,16 @@ fn write_contest(report: &Report, value: &Value, out: &mut Output) -> Result<(),
 
 /// Writes the names of the selections that a contest on a ballot lists.
 fn write_selections(report: &Report, value: &Value, out: &mut Output) -> Result<(), AllocError>
-    ensures { OnOk result (out.new ≡ out.old ++ value_tokens (array_of (map (shown_name_named report.now.prefer (view report.now.tree)) (entries_at (codes "OrderedContestSelectionIds") (view value.now))))) }
+    ensures { OnOk result (out.new ≡ out.old ++ value_tokens
+        (array_of (map (shown_name_named report.now.prefer (view report.now.tree)) (entries_at (codes "OrderedContestSelectionIds") (view value.now))))) }
 {
     write_names(report, entries_at(value, "OrderedContestSelectionIds"), out)
 }
 
 /// Writes the names of the selections that references name, in their order.
 fn write_names(report: &Report, values: &[Value], out: &mut Output) -> Result<(), AllocError>
-    ensures { OnOk result (out.new ≡ out.old ++ value_tokens (array_of (map (λ v. shown_name_named report.now.prefer (view report.now.tree) (view v)) values.now))) }
+    ensures { OnOk result (out.new ≡ out.old ++ value_tokens
+        (array_of (map (λ v. shown_name_named report.now.prefer (view report.now.tree) (view v)) values.now))) }
 {
     out.begin_array()?;
     for value in values {
@@ -164,7 +175,8 @@ fn write_carried_in(
     members: &Map<String, Value>,
     out: &mut Output,
 ) -> Result<(), AllocError>
-    ensures { OnOk result (members_have_float (members_view members.now.entries) ≡ false → out.new ≡ out.old ++ members_tokens (carried_in class (members_view members.now.entries))) }
+    ensures { OnOk result (members_have_float (members_view members.now.entries) ≡ false → out.new ≡ out.old
+        ++ members_tokens (carried_in class (members_view members.now.entries))) }
 {
     for (name, member) in members.iter() {
         let name = name.as_str();

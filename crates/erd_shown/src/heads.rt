@@ -85,7 +85,8 @@ fn write_head(
     style: &Value,
     out: &mut Output,
 ) -> Result<(), AllocError>
-    ensures { OnOk result (out.new ≡ out.old ++ value_tokens (head_data report.now.prefer (view report.now.tree) (option_copied key.entry, position) (view style.now))) }
+    ensures { OnOk result (out.new ≡ out.old ++ value_tokens
+        (head_data report.now.prefer (view report.now.tree) (option_copied key.entry, position) (view style.now))) }
 {
     out.begin_object()?;
     out.key("at")?;

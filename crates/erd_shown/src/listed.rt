@@ -80,7 +80,8 @@ fn names_of_named<'a>(
     report: &'a Report,
     id: &str,
 ) -> Result<Vec<&'a SelectionName>, AllocError>
-    ensures { IfOk result (λ names. map lent names.items ≡ sorted_names report.now.prefer (view report.now.tree) (selections_named (view report.now.tree) id.now)) }
+    ensures { IfOk result (λ names. map lent names.items ≡ sorted_names report.now.prefer (view report.now.tree)
+        (selections_named (view report.now.tree) id.now)) }
 {
     match place_named(report, Family::Contest, id) {
         Some(position) => names_of_contest(alloc, report, position),
@@ -95,7 +96,8 @@ fn names_of_contest<'a>(
     position: usize,
 ) -> Result<Vec<&'a SelectionName>, AllocError>
     ensures { IfOk result (λ names. map lent names.items ≡ sorted_names report.now.prefer (view report.now.tree)
-        (option_map_or (entries_at (codes "ContestSelection")) (option_map (λ o. o.value) (slice_get (objects family.Contest (view report.now.tree)) position)) [])) }
+        (option_map_or (entries_at (codes "ContestSelection")) (option_map (λ o. o.value) (slice_get (objects family.Contest (view report.now.tree)) position))
+        [])) }
 {
     let _tree = report.tree();
     match report.object(Family::Contest, position) {

@@ -54,7 +54,8 @@ pub(crate) fn name_at<'a>(report: &'a Report, position: usize) -> Option<&'a Sel
 
 /// Returns the position of the object of the family that has the `@id`, if there is one.
 pub(crate) fn place_named(report: &Report, family: Family, id: &str) -> Option<usize>
-    ensures { option_map (λ o. o.value) (option_and_then (slice_get (objects family (view report.now.tree))) result) ≡ owner (view report.now.tree) family id.now }
+    ensures { option_map (λ o. o.value) (option_and_then (slice_get (objects family (view report.now.tree))) result)
+        ≡ owner (view report.now.tree) family id.now }
 {
     match report.target_of(family, id) {
         Some((found, position)) => {

@@ -54,9 +54,12 @@ fn candidates_reworded(
     parties: &[bool],
     persons: &[bool],
 ) -> Result<Vec<bool>, AllocError>
-    requires parties { parties.now ≡ marks_of (is_reworded left.now.prefer (view left.now.tree) right.now.prefer (view right.now.tree) family.Party) family.Party (view left.now.tree) }
-    requires persons { persons.now ≡ marks_of (is_reworded left.now.prefer (view left.now.tree) right.now.prefer (view right.now.tree) family.Person) family.Person (view left.now.tree) }
-    ensures { IfOk result (λ found. found.items ≡ marks_of (is_candidate_reworded left.now.prefer (view left.now.tree) right.now.prefer (view right.now.tree)) family.Candidate (view left.now.tree)) }
+    requires parties { parties.now ≡ marks_of (is_reworded left.now.prefer (view left.now.tree) right.now.prefer (view right.now.tree) family.Party)
+        family.Party (view left.now.tree) }
+    requires persons { persons.now ≡ marks_of (is_reworded left.now.prefer (view left.now.tree) right.now.prefer (view right.now.tree) family.Person)
+        family.Person (view left.now.tree) }
+    ensures { IfOk result (λ found. found.items ≡ marks_of (is_candidate_reworded left.now.prefer (view left.now.tree) right.now.prefer (view right.now.tree))
+        family.Candidate (view left.now.tree)) }
 {
     let count = left.count(Family::Candidate);
     let mut found = Vec::with_capacity(alloc, count)?;
@@ -77,8 +80,10 @@ fn is_candidate_reworded(
     parties: &[bool],
     persons: &[bool],
 ) -> Result<bool, AllocError>
-    requires parties { parties.now ≡ marks_of (is_reworded left.now.prefer (view left.now.tree) right.now.prefer (view right.now.tree) family.Party) family.Party (view left.now.tree) }
-    requires persons { persons.now ≡ marks_of (is_reworded left.now.prefer (view left.now.tree) right.now.prefer (view right.now.tree) family.Person) family.Person (view left.now.tree) }
+    requires parties { parties.now ≡ marks_of (is_reworded left.now.prefer (view left.now.tree) right.now.prefer (view right.now.tree) family.Party)
+        family.Party (view left.now.tree) }
+    requires persons { persons.now ≡ marks_of (is_reworded left.now.prefer (view left.now.tree) right.now.prefer (view right.now.tree) family.Person)
+        family.Person (view left.now.tree) }
     ensures { IfOk result (λ it. (o : Placed) → slice_get (objects family.Candidate (view left.now.tree)) position ≡ Some o
         → it ≡ is_candidate_reworded left.now.prefer (view left.now.tree) right.now.prefer (view right.now.tree) o.value) }
 {
@@ -106,9 +111,12 @@ fn contests_reworded(
     parties: &[bool],
     candidates: &[bool],
 ) -> Result<Vec<bool>, AllocError>
-    requires parties { parties.now ≡ marks_of (is_reworded left.now.prefer (view left.now.tree) right.now.prefer (view right.now.tree) family.Party) family.Party (view left.now.tree) }
-    requires candidates { candidates.now ≡ marks_of (is_candidate_reworded left.now.prefer (view left.now.tree) right.now.prefer (view right.now.tree)) family.Candidate (view left.now.tree) }
-    ensures { IfOk result (λ found. found.items ≡ marks_of (is_contest_reworded left.now.prefer (view left.now.tree) right.now.prefer (view right.now.tree)) family.Contest (view left.now.tree)) }
+    requires parties { parties.now ≡ marks_of (is_reworded left.now.prefer (view left.now.tree) right.now.prefer (view right.now.tree) family.Party)
+        family.Party (view left.now.tree) }
+    requires candidates { candidates.now ≡ marks_of (is_candidate_reworded left.now.prefer (view left.now.tree) right.now.prefer (view right.now.tree))
+        family.Candidate (view left.now.tree) }
+    ensures { IfOk result (λ found. found.items ≡ marks_of (is_contest_reworded left.now.prefer (view left.now.tree) right.now.prefer (view right.now.tree))
+        family.Contest (view left.now.tree)) }
 {
     let count = left.count(Family::Contest);
     let mut found = Vec::with_capacity(alloc, count)?;
@@ -129,8 +137,10 @@ fn is_contest_reworded(
     parties: &[bool],
     candidates: &[bool],
 ) -> Result<bool, AllocError>
-    requires parties { parties.now ≡ marks_of (is_reworded left.now.prefer (view left.now.tree) right.now.prefer (view right.now.tree) family.Party) family.Party (view left.now.tree) }
-    requires candidates { candidates.now ≡ marks_of (is_candidate_reworded left.now.prefer (view left.now.tree) right.now.prefer (view right.now.tree)) family.Candidate (view left.now.tree) }
+    requires parties { parties.now ≡ marks_of (is_reworded left.now.prefer (view left.now.tree) right.now.prefer (view right.now.tree) family.Party)
+        family.Party (view left.now.tree) }
+    requires candidates { candidates.now ≡ marks_of (is_candidate_reworded left.now.prefer (view left.now.tree) right.now.prefer (view right.now.tree))
+        family.Candidate (view left.now.tree) }
     ensures { IfOk result (λ it. (o : Placed) → slice_get (objects family.Contest (view left.now.tree)) position ≡ Some o
         → it ≡ is_contest_reworded left.now.prefer (view left.now.tree) right.now.prefer (view right.now.tree) o.value) }
 {

@@ -25,7 +25,8 @@ pub(crate) fn write_plain_object(
     out: &mut Output,
 ) -> Result<(), AllocError>
     ensures { OnOk result (has_float (view value.now) ≡ false
-        → out.new ≡ out.old ++ value_tokens (object (shown_members (shown_plain report.now.prefer (view report.now.tree) class) (members_in (view value.now))))) }
+        → out.new ≡ out.old
+        ++ value_tokens (object (shown_members (shown_plain report.now.prefer (view report.now.tree) class) (members_in (view value.now))))) }
 {
     out.begin_object()?;
     match value {

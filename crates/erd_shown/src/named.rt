@@ -37,7 +37,8 @@ pub(crate) fn any_named(
     marks: &[bool],
     references: &[Value],
 ) -> bool
-    ensures { (P : Data → Bool) → marks.now ≡ marks_of P family (view report.now.tree) → result ≡ true_of_any_named P (view report.now.tree) family (map view references.now) }
+    ensures { (P : Data → Bool) → marks.now ≡ marks_of P family (view report.now.tree) → result ≡ true_of_any_named P (view report.now.tree) family
+        (map view references.now) }
 {
     for reference in references {
         if is_one_named(report, family, marks, reference) {
@@ -49,7 +50,8 @@ pub(crate) fn any_named(
 
 /// Returns whether a reference is a text that names an object of the family that is marked.
 fn is_one_named(report: &Report, family: Family, marks: &[bool], reference: &Value) -> bool
-    ensures { (P : Data → Bool) → marks.now ≡ marks_of P family (view report.now.tree) → result ≡ option_map_or P (option_and_then (owner (view report.now.tree) family) (as_str (view reference.now))) false }
+    ensures { (P : Data → Bool) → marks.now ≡ marks_of P family (view report.now.tree)
+        → result ≡ option_map_or P (option_and_then (owner (view report.now.tree) family) (as_str (view reference.now))) false }
 {
     match reference.as_str() {
         Some(id) => is_named(report, family, marks, id),

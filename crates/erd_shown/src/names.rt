@@ -35,7 +35,8 @@ pub(crate) fn write_name(name: &SelectionName, out: &mut Output) -> Result<(), A
 
 /// Writes the parts after the keys, and the end of the array.
 fn write_after_keys(name: &SelectionName, out: &mut Output) -> Result<(), AllocError>
-    ensures { OnOk result (out.new ≡ out.old ++ items_tokens (items_of (boolean name.now.write_in ∷ shown_order name.now.order ∷ shown_text_or_null name.now.label ∷ shown_key_or_null name.now.identifier ∷ []))) }
+    ensures { OnOk result (out.new ≡ out.old ++ items_tokens
+        (items_of (boolean name.now.write_in ∷ shown_order name.now.order ∷ shown_text_or_null name.now.label ∷ shown_key_or_null name.now.identifier ∷ []))) }
 {
     out.boolean(name.is_write_in())?;
     write_order(name.sequence_order(), out)?;

@@ -12,7 +12,8 @@ ghost use Rattle.erd_check.specs.Values.{entries_of};
 ghost use Rattle.erd_meaning.specs.Objects.{Placed};
 ghost use Rattle.erd_shown.specs.KeyData.{shown_key_or_null};
 ghost use Rattle.erd_shown.specs.ContentData.{members_in};
-ghost use Rattle.erd_shown.specs.Shown.{holder_key, object_data_in, object_in_class, placed_in, shown_selections, shown_member, shown_members, unless_no_entry};
+ghost use Rattle.erd_shown.specs.Shown.{holder_key, object_data_in, object_in_class, placed_in, shown_selections, shown_member, shown_members};
+ghost use Rattle.erd_meaning.specs.Records.{unless_empty};
 ghost use Rattle.erd_shown.specs.SideValues.{told_of_object, told_of_placed};
 ghost use Rattle.erd_shown.specs.code.Selections.{AreNamedFrom, HoldNamed, is_selections};
 ghost use Rattle.erd_shown.specs.code.Writing.{member_told};
@@ -73,10 +74,13 @@ pub(crate) fn placed<'a>(
     ensures none { result ≡ None → object_data_in report.now.prefer (view report.now.tree) role position ≡ null }
     ensures some { IfSome result (λ object. object_data_in report.now.prefer (view report.now.tree) role position
         ≡ object_in_class report.now.prefer (view report.now.tree) (option_copied object.holder) (view object.value.now) object.class) }
-    ensures untold { result ≡ None → (what : Option (List ℕ)) → option_and_then (told_of_placed report.now.prefer (view report.now.tree) role what) (placed_in (view report.now.tree) role position) ≡ None }
-    ensures told { IfSome result (λ object. (what : Option (List ℕ)) → option_and_then (told_of_placed report.now.prefer (view report.now.tree) role what) (placed_in (view report.now.tree) role position)
+    ensures untold { result ≡ None → (what : Option (List ℕ)) → option_and_then (told_of_placed report.now.prefer (view report.now.tree) role what)
+        (placed_in (view report.now.tree) role position) ≡ None }
+    ensures told { IfSome result (λ object. (what : Option (List ℕ)) → option_and_then (told_of_placed report.now.prefer (view report.now.tree) role what)
+        (placed_in (view report.now.tree) role position)
         ≡ told_of_object report.now.prefer (view report.now.tree) what (option_copied object.holder) (view object.value.now) object.class) }
-    ensures named { IfSome result (λ object. HoldNamed report.now.prefer (view report.now.tree) object.first_selection object.class (members_in (view object.value.now))) }
+    ensures named { IfSome result (λ object. HoldNamed report.now.prefer (view report.now.tree) object.first_selection object.class
+        (members_in (view object.value.now))) }
     ensures whole { IfSome result (λ object. has_float (view object.value.now) ≡ false) }
 {
     let tree = report.tree();
@@ -112,7 +116,8 @@ fn value_at<'a>(
 
 /// Returns the key of the election that holds the object with a role at a position, if there is one with a key.
 fn holder<'a>(report: &'a Report, role: Role, position: usize) -> Option<&'a Key>
-    ensures { (o : Placed) → placed_in (view report.now.tree) role position ≡ Some o → option_copied result ≡ holder_key report.now.prefer (view report.now.tree) role o }
+    ensures { (o : Placed) → placed_in (view report.now.tree) role position ≡ Some o → option_copied result ≡ holder_key report.now.prefer
+        (view report.now.tree) role o }
 {
     match role {
         Role::OfFamily(family) => match report.election_of(family, position) {
@@ -130,8 +135,10 @@ fn write_placed(
     object: &PlacedObject,
     out: &mut Output,
 ) -> Result<(), AllocError>
-    ensures { OnOk result (HoldNamed report.now.prefer (view report.now.tree) object.now.first_selection object.now.class (members_in (view object.now.value.now)) → has_float (view object.now.value.now) ≡ false
-        → out.new ≡ out.old ++ value_tokens (object_in_class report.now.prefer (view report.now.tree) (option_copied object.now.holder) (view object.now.value.now) object.now.class)) }
+    ensures { OnOk result (HoldNamed report.now.prefer (view report.now.tree) object.now.first_selection object.now.class
+        (members_in (view object.now.value.now)) → has_float (view object.now.value.now) ≡ false
+        → out.new ≡ out.old ++ value_tokens (object_in_class report.now.prefer (view report.now.tree) (option_copied object.now.holder)
+        (view object.now.value.now) object.now.class)) }
 {
     write_head(object, out)?;
     out.key("members")?;
@@ -141,7 +148,8 @@ fn write_placed(
 
 /// Writes the start of an object, its class, and the key of its election.
 pub(crate) fn write_head(object: &PlacedObject, out: &mut Output) -> Result<(), AllocError>
-    ensures { OnOk result (out.new ≡ out.old ++ begin_object ∷ key (codes "class") ∷ text (text_of_class object.now.class) ∷ key (codes "election") ∷ value_tokens (shown_key_or_null (option_copied object.now.holder))) }
+    ensures { OnOk result (out.new ≡ out.old ++ begin_object ∷ key (codes "class") ∷ text (text_of_class object.now.class) ∷ key (codes "election")
+        ∷ value_tokens (shown_key_or_null (option_copied object.now.holder))) }
 {
     out.begin_object()?;
     out.key("class")?;
@@ -157,8 +165,11 @@ fn write_members_of(
     object: &PlacedObject,
     out: &mut Output,
 ) -> Result<(), AllocError>
-    ensures { OnOk result (HoldNamed report.now.prefer (view report.now.tree) object.now.first_selection object.now.class (members_in (view object.now.value.now)) → has_float (view object.now.value.now) ≡ false
-        → out.new ≡ out.old ++ value_tokens (json_object (shown_members (shown_member report.now.prefer (view report.now.tree) object.now.class) (members_in (view object.now.value.now))))) }
+    ensures { OnOk result (HoldNamed report.now.prefer (view report.now.tree) object.now.first_selection object.now.class
+        (members_in (view object.now.value.now)) → has_float (view object.now.value.now) ≡ false
+        → out.new ≡ out.old
+        ++ value_tokens
+        (json_object (shown_members (shown_member report.now.prefer (view report.now.tree) object.now.class) (members_in (view object.now.value.now))))) }
 {
     out.begin_object()?;
     match object.value {
@@ -175,8 +186,10 @@ fn write_members(
     members: &Map<String, Value>,
     out: &mut Output,
 ) -> Result<(), AllocError>
-    ensures { OnOk result (HoldNamed report.now.prefer (view report.now.tree) object.now.first_selection object.now.class (members_view members.now.entries) → members_have_float (members_view members.now.entries) ≡ false
-        → out.new ≡ out.old ++ members_tokens (shown_members (shown_member report.now.prefer (view report.now.tree) object.now.class) (members_view members.now.entries))) }
+    ensures { OnOk result (HoldNamed report.now.prefer (view report.now.tree) object.now.first_selection object.now.class (members_view members.now.entries)
+        → members_have_float (members_view members.now.entries) ≡ false
+        → out.new ≡ out.old ++ members_tokens (shown_members (shown_member report.now.prefer (view report.now.tree) object.now.class)
+        (members_view members.now.entries))) }
 {
     for (name, member) in members.iter() {
         let name = name.as_str();
@@ -194,7 +207,8 @@ fn write_member(
     member: &Value,
     out: &mut Output,
 ) -> Result<(), AllocError>
-    ensures { OnOk result ((kind_of_member object.now.class name.now ≡ kind.Keyed family.Selection → AreNamedFrom report.now.prefer (view report.now.tree) object.now.first_selection (entries_of (view member.now)))
+    ensures { OnOk result ((kind_of_member object.now.class name.now ≡ kind.Keyed family.Selection → AreNamedFrom report.now.prefer (view report.now.tree)
+        object.now.first_selection (entries_of (view member.now)))
         → has_float (view member.now) ≡ false
         → out.new ≡ out.old ++ member_told name.now (shown_member report.now.prefer (view report.now.tree) object.now.class name.now (view member.now))) }
 {
@@ -207,6 +221,7 @@ fn write_member(
 
 /// Writes the member that holds the selections of a contest, unless it is empty. The first of them has the position `start` in
 /// the report.
+#[tactic(auto, using(crate::proofs::EmptyArrays::unless_by_test))]
 fn write_selections_member(
     alloc: Global,
     report: &Report,
@@ -216,7 +231,8 @@ fn write_selections_member(
     out: &mut Output,
 ) -> Result<(), AllocError>
     ensures { OnOk result (AreNamedFrom report.now.prefer (view report.now.tree) start (entries_of (view member.now)) → has_float (view member.now) ≡ false
-        → out.new ≡ out.old ++ member_told name.now (unless_no_entry (view member.now) (shown_selections report.now.prefer (view report.now.tree) (entries_of (view member.now))))) }
+        → out.new ≡ out.old ++ member_told name.now
+        (unless_empty (shown_selections report.now.prefer (view report.now.tree) (entries_of (view member.now))) (view member.now))) }
 {
     if is_empty_array(member) {
         Ok(())

@@ -36,7 +36,8 @@ pub(crate) fn write_reference(
     out: &mut Output,
 ) -> Result<(), AllocError>
     requires keyed { has_keys family ≡ true }
-    ensures { OnOk result (out.new ≡ out.old ++ value_tokens (shown_key_or_null (option_and_then (key_named report.now.prefer (view report.now.tree) family) (as_str (view value.now))))) }
+    ensures { OnOk result (out.new ≡ out.old ++ value_tokens
+        (shown_key_or_null (option_and_then (key_named report.now.prefer (view report.now.tree) family) (as_str (view value.now))))) }
 {
     match value.as_str() {
         Some(id) => write_key_named(report, family, id, out),

@@ -23,7 +23,8 @@ pub(crate) fn reworded(
     family: Family,
 ) -> Result<Vec<bool>, AllocError>
     requires keyed { has_keys family ≡ true }
-    ensures { IfOk result (λ found. found.items ≡ marks_of (is_reworded left.now.prefer (view left.now.tree) right.now.prefer (view right.now.tree) family) family (view left.now.tree)) }
+    ensures { IfOk result (λ found. found.items ≡ marks_of (is_reworded left.now.prefer (view left.now.tree) right.now.prefer (view right.now.tree) family)
+        family (view left.now.tree)) }
 {
     let count = left.count(family);
     let mut found = Vec::with_capacity(alloc, count)?;
@@ -66,7 +67,10 @@ fn is_object_reworded(
 ) -> Result<bool, AllocError>
     requires keyed { has_keys family ≡ true }
     requires whole { has_float (view object.now) ≡ false }
-    ensures { IfOk result (λ it. it ≡ option_map_or (λ k. option_map_or (has_other_words left.now.prefer (view left.now.tree) right.now.prefer (view right.now.tree) family (view object.now)) (with_key right.now.prefer (view right.now.tree) family k) false) (option_copied key.entry) false) }
+    ensures { IfOk result (λ it. it
+        ≡ option_map_or
+        (λ k. option_map_or (has_other_words left.now.prefer (view left.now.tree) right.now.prefer (view right.now.tree) family (view object.now))
+        (with_key right.now.prefer (view right.now.tree) family k) false) (option_copied key.entry) false) }
 {
     match key {
         Some(key) => is_reworded_by_key(alloc, left, object, key, right, family),
@@ -85,7 +89,8 @@ fn is_reworded_by_key(
 ) -> Result<bool, AllocError>
     requires keyed { has_keys family ≡ true }
     requires whole { has_float (view object.now) ≡ false }
-    ensures { IfOk result (λ it. it ≡ option_map_or (has_other_words left.now.prefer (view left.now.tree) right.now.prefer (view right.now.tree) family (view object.now)) (with_key right.now.prefer (view right.now.tree) family key.now) false) }
+    ensures { IfOk result (λ it. it ≡ option_map_or (has_other_words left.now.prefer (view left.now.tree) right.now.prefer (view right.now.tree) family
+        (view object.now)) (with_key right.now.prefer (view right.now.tree) family key.now) false) }
 {
     match object_with_key(right, family, key) {
         Some(other) => has_other_words(alloc, left, object, right, other, family),
@@ -104,7 +109,8 @@ fn has_other_words(
 ) -> Result<bool, AllocError>
     requires one { has_float (view object.now) ≡ false }
     requires other { has_float (view other.now) ≡ false }
-    ensures { IfOk result (λ it. it ≡ has_other_words left.now.prefer (view left.now.tree) right.now.prefer (view right.now.tree) family (view object.now) (view other.now)) }
+    ensures { IfOk result (λ it. it ≡ has_other_words left.now.prefer (view left.now.tree) right.now.prefer (view right.now.tree) family
+        (view object.now) (view other.now)) }
 {
     let one = words_text(alloc, left, family, object)?;
     let another = words_text(alloc, right, family, other)?;
@@ -124,6 +130,7 @@ fn object_with_key<'a>(report: &'a Report, family: Family, key: &Key) -> Option<
     ensures there { option_map (λ v. view v.now) result ≡ with_key report.now.prefer (view report.now.tree) family key.now }
     ensures whole { IfSome result (λ v. has_float (view v.now) ≡ false) }
 {
+    let _tree = report.tree();
     match report.find(family, key) {
         Some(position) => object_at(report, family, position),
         None => None,

@@ -7,7 +7,8 @@ ghost use Rattle.erd_tables.specs.declared.class.Family.TheVariants as family;
 ghost use Rattle.erd_shown.specs.ListedNames.{selections_named};
 ghost use Rattle.erd_check.specs.Values.{text_at};
 ghost use Rattle.erd_meaning.specs.Objects.{owner};
-ghost use Rattle.erd_shown.specs.Reworded.{are_selections_reworded, are_voters_reworded, is_ballot_reworded, is_contest_reworded, is_line_reworded, is_reworded, is_selection_reworded, true_of_any_named, true_of_named};
+ghost use Rattle.erd_shown.specs.Reworded.{are_selections_reworded, are_voters_reworded, is_ballot_reworded, is_contest_reworded, is_line_reworded};
+ghost use Rattle.erd_shown.specs.Reworded.{is_reworded, is_selection_reworded, true_of_any_named, true_of_named};
 ghost use Rattle.erd_shown.specs.code.LineLists.{of_line};
 ghost use Rattle.erd_shown.specs.code.Marks.{AreMarks};
 
@@ -67,7 +68,7 @@ fn any_line_reworded(left: &Report, lines: &[Line], right: &Report, marks: &Mark
 }
 
 /// Returns whether ballots print other words of a line.
-fn is_line_reworded(left: &Report, node: &Value, right: &Report, marks: &Marks) -> bool
+pub(crate) fn is_line_reworded(left: &Report, node: &Value, right: &Report, marks: &Marks) -> bool
     requires marks { AreMarks left.now.prefer (view left.now.tree) right.now.prefer (view right.now.tree) marks.now }
     ensures { result ≡ is_line_reworded left.now.prefer (view left.now.tree) right.now.prefer (view right.now.tree) (view node.now) }
 {
@@ -81,7 +82,8 @@ fn is_line_reworded(left: &Report, node: &Value, right: &Report, marks: &Marks) 
 /// Returns whether ballots print other words of a line that is a header.
 fn is_header_line_reworded(left: &Report, node: &Value, right: &Report, marks: &Marks) -> bool
     requires marks { AreMarks left.now.prefer (view left.now.tree) right.now.prefer (view right.now.tree) marks.now }
-    ensures { result ≡ true_of_named (is_reworded left.now.prefer (view left.now.tree) right.now.prefer (view right.now.tree) family.Header) (view left.now.tree) family.Header (text_at (codes "HeaderId") (view node.now)) }
+    ensures { result ≡ true_of_named (is_reworded left.now.prefer (view left.now.tree) right.now.prefer (view right.now.tree) family.Header)
+        (view left.now.tree) family.Header (text_at (codes "HeaderId") (view node.now)) }
 {
     let id = text_at(node, "HeaderId");
     is_named(left, Family::Header, &marks.headers, id)
@@ -90,7 +92,8 @@ fn is_header_line_reworded(left: &Report, node: &Value, right: &Report, marks: &
 /// Returns whether ballots print other words of a line that is a contest.
 fn is_contest_line_reworded(left: &Report, node: &Value, right: &Report, marks: &Marks) -> bool
     requires marks { AreMarks left.now.prefer (view left.now.tree) right.now.prefer (view right.now.tree) marks.now }
-    ensures { result ≡ (true_of_named (is_contest_reworded left.now.prefer (view left.now.tree) right.now.prefer (view right.now.tree)) (view left.now.tree) family.Contest (text_at (codes "ContestId") (view node.now))
+    ensures { result ≡ (true_of_named (is_contest_reworded left.now.prefer (view left.now.tree) right.now.prefer (view right.now.tree)) (view left.now.tree)
+        family.Contest (text_at (codes "ContestId") (view node.now))
         || are_selections_reworded left.now.prefer (view left.now.tree) right.now.prefer (view right.now.tree) (view node.now)) }
 {
     let id = text_at(node, "ContestId");
@@ -116,7 +119,8 @@ fn are_selections_reworded(left: &Report, node: &Value, right: &Report, marks: &
 /// Returns whether one of the references names a selection of which ballots print other words.
 fn any_listed_reworded(left: &Report, references: &[Value], right: &Report, marks: &Marks) -> bool
     requires marks { AreMarks left.now.prefer (view left.now.tree) right.now.prefer (view right.now.tree) marks.now }
-    ensures { result ≡ true_of_any_named (is_selection_reworded left.now.prefer (view left.now.tree) right.now.prefer (view right.now.tree)) (view left.now.tree) family.Selection (map view references.now) }
+    ensures { result ≡ true_of_any_named (is_selection_reworded left.now.prefer (view left.now.tree) right.now.prefer (view right.now.tree))
+        (view left.now.tree) family.Selection (map view references.now) }
 {
     for reference in references {
         if is_listed_reworded(left, reference, right, marks) {
@@ -129,7 +133,8 @@ fn any_listed_reworded(left: &Report, references: &[Value], right: &Report, mark
 /// Returns whether a reference names a selection of which ballots print other words.
 fn is_listed_reworded(left: &Report, reference: &Value, right: &Report, marks: &Marks) -> bool
     requires marks { AreMarks left.now.prefer (view left.now.tree) right.now.prefer (view right.now.tree) marks.now }
-    ensures { result ≡ option_map_or (is_selection_reworded left.now.prefer (view left.now.tree) right.now.prefer (view right.now.tree)) (option_and_then (owner (view left.now.tree) family.Selection) (as_str (view reference.now))) false }
+    ensures { result ≡ option_map_or (is_selection_reworded left.now.prefer (view left.now.tree) right.now.prefer (view right.now.tree))
+        (option_and_then (owner (view left.now.tree) family.Selection) (as_str (view reference.now))) false }
 {
     match object_referred(left, Family::Selection, reference) {
         Some(selection) => is_selection_reworded(left, selection, right, marks),
@@ -140,7 +145,8 @@ fn is_listed_reworded(left: &Report, reference: &Value, right: &Report, marks: &
 /// Returns whether ballots print other words of a selection of the contest that a reference names.
 fn any_of_named_reworded(left: &Report, id: &str, right: &Report, marks: &Marks) -> bool
     requires marks { AreMarks left.now.prefer (view left.now.tree) right.now.prefer (view right.now.tree) marks.now }
-    ensures { result ≡ list_any (is_selection_reworded left.now.prefer (view left.now.tree) right.now.prefer (view right.now.tree)) (selections_named (view left.now.tree) id.now) }
+    ensures { result ≡ list_any (is_selection_reworded left.now.prefer (view left.now.tree) right.now.prefer (view right.now.tree))
+        (selections_named (view left.now.tree) id.now) }
 {
     match object_named(left, Family::Contest, id) {
         Some(contest) => {

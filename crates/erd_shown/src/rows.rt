@@ -61,7 +61,8 @@ fn push_line(
 ) -> Result<usize, AllocError>
     requires within { other ≤ length right.now }
     ensures within { IfOk result (λ next. next ≤ length right.now) }
-    ensures rows { IfOk result (λ next. (left : List (Option ℕ)) → slice_get left one ≡ Some partner → AreUpTo left right.now rows.old.items one other → AreUpTo left right.now rows.new.items (one + 1) next) }
+    ensures rows { IfOk result (λ next. (left : List (Option ℕ)) → slice_get left one ≡ Some partner → AreUpTo left right.now rows.old.items one other
+        → AreUpTo left right.now rows.new.items (one + 1) next) }
 {
     match kept(partner, other, right.len(), stays) {
         Some(there) => {

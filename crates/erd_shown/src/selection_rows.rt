@@ -19,9 +19,9 @@ use std::alloc::{AllocError, Global};
 /// The names of the selections of a contest on two ballots, and rows of them.
 #[derive(Drop)]
 pub(crate) struct SelectionRows<'a> {
-    lefts: Vec<&'a SelectionName>,
-    rights: Vec<&'a SelectionName>,
-    rows: Vec<Row>,
+    pub(crate) lefts: Vec<&'a SelectionName>,
+    pub(crate) rights: Vec<&'a SelectionName>,
+    pub(crate) rows: Vec<Row>,
 }
 
 /// Returns the selections of a contest on two ballots beside each other.
@@ -32,7 +32,8 @@ pub(crate) fn selections_beside<'a>(
     right: &'a Report,
     other: &Value,
 ) -> Result<SelectionRows<'a>, AllocError>
-    ensures { IfOk result (λ found. AreSelections left.now.prefer (view left.now.tree) (view one.now) right.now.prefer (view right.now.tree) (view other.now) (of_selections found)) }
+    ensures { IfOk result (λ found. AreSelections left.now.prefer (view left.now.tree) (view one.now) right.now.prefer (view right.now.tree) (view other.now)
+        (of_selections found)) }
 {
     let both_listed = are_listed(one, other);
     let lefts = names_for(alloc, left, one, both_listed)?;
@@ -138,7 +139,7 @@ fn write_named(
 }
 
 /// Returns the name at a position, if there is one.
-fn name_in<'a>(names: &[&'a SelectionName], position: usize) -> Option<&'a SelectionName>
+pub(crate) fn name_in<'a>(names: &[&'a SelectionName], position: usize) -> Option<&'a SelectionName>
     ensures { result ≡ slice_get names.now position }
 {
     names.get(position).copied()

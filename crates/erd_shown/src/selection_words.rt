@@ -70,6 +70,15 @@ fn write_selections_of(
     write_lines(alloc, report, &lines, out)
 }
 
+/// Returns what ballots print of the selections of a contest on a ballot, as compact JSON.
+pub(crate) fn line_text(alloc: Global, report: &Report, node: &Value) -> Result<String, AllocError>
+    ensures { IfOk result (λ text. string_bytes text ≡ compact_text (selection_words report.now.prefer (view report.now.tree) (view node.now))) }
+{
+    let mut out = Output::new(alloc);
+    write_line(alloc, report, node, &mut out)?;
+    text_of(out)
+}
+
 /// Writes what ballots print of the selections on each of the lines.
 fn write_lines(
     alloc: Global,
@@ -77,7 +86,8 @@ fn write_lines(
     lines: &[Line],
     out: &mut Output,
 ) -> Result<(), AllocError>
-    ensures { OnOk result (out.new ≡ out.old ++ value_tokens (array_of (map (λ l. selection_words report.now.prefer (view report.now.tree) (of_line l).1) lines.now))) }
+    ensures { OnOk result (out.new ≡ out.old ++ value_tokens
+        (array_of (map (λ l. selection_words report.now.prefer (view report.now.tree) (of_line l).1) lines.now))) }
 {
     out.begin_array()?;
     for line in lines {
@@ -110,7 +120,8 @@ fn write_listed(
     references: &[Value],
     out: &mut Output,
 ) -> Result<(), AllocError>
-    ensures { OnOk result (out.new ≡ out.old ++ value_tokens (array_of (map (words_at_reference report.now.prefer (view report.now.tree) family.Selection) (map view references.now)))) }
+    ensures { OnOk result (out.new ≡ out.old ++ value_tokens
+        (array_of (map (words_at_reference report.now.prefer (view report.now.tree) family.Selection) (map view references.now)))) }
 {
     out.begin_array()?;
     for reference in references {
@@ -126,7 +137,8 @@ fn write_at_reference(
     reference: &Value,
     out: &mut Output,
 ) -> Result<(), AllocError>
-    ensures { OnOk result (out.new ≡ out.old ++ value_tokens (words_at_reference report.now.prefer (view report.now.tree) family.Selection (view reference.now))) }
+    ensures { OnOk result (out.new ≡ out.old ++ value_tokens
+        (words_at_reference report.now.prefer (view report.now.tree) family.Selection (view reference.now))) }
 {
     match object_referred(report, Family::Selection, reference) {
         Some(selection) => write_words(alloc, report, Family::Selection, selection, out),
@@ -153,7 +165,9 @@ fn write_contest(
     out: &mut Output,
 ) -> Result<(), AllocError>
     ensures { OnOk result (out.new ≡ out.old ++ value_tokens (array_of (map (words_data report.now.prefer (view report.now.tree) family.Selection)
-        (in_name_order report.now.prefer (view report.now.tree) (option_map_or (entries_at (codes "ContestSelection")) (option_map (λ o. o.value) (slice_get (objects family.Contest (view report.now.tree)) position)) []))))) }
+        (in_name_order report.now.prefer (view report.now.tree)
+        (option_map_or (entries_at (codes "ContestSelection"))
+        (option_map (λ o. o.value) (slice_get (objects family.Contest (view report.now.tree)) position)) []))))) }
 {
     let _tree = report.tree();
     match object_at(report, Family::Contest, position) {
@@ -180,8 +194,12 @@ fn write_in_order(
     selections: &[Value],
     out: &mut Output,
 ) -> Result<(), AllocError>
-    ensures { OnOk result (AreNamedFrom report.now.prefer (view report.now.tree) start (map view selections.now) → items_have_float (items_view selections.now) ≡ false
-        → out.new ≡ out.old ++ value_tokens (array_of (map (words_data report.now.prefer (view report.now.tree) family.Selection) (in_name_order report.now.prefer (view report.now.tree) (map view selections.now))))) }
+    ensures { OnOk result (AreNamedFrom report.now.prefer (view report.now.tree) start (map view selections.now)
+        → items_have_float (items_view selections.now) ≡ false
+        → out.new ≡ out.old
+        ++ value_tokens
+        (array_of (map (words_data report.now.prefer (view report.now.tree) family.Selection)
+        (in_name_order report.now.prefer (view report.now.tree) (map view selections.now))))) }
 {
     let pairs = in_order(alloc, named_selections(alloc, report, start, selections)?)?;
     write_pairs(alloc, report, &pairs, out)
@@ -195,7 +213,8 @@ fn write_pairs(
     out: &mut Output,
 ) -> Result<(), AllocError>
     ensures { OnOk result (items_have_float (items_of (map (λ p. view p.1.now) pairs.now)) ≡ false
-        → out.new ≡ out.old ++ value_tokens (array_of (map (λ p. words_data report.now.prefer (view report.now.tree) family.Selection (view p.1.now)) pairs.now))) }
+        → out.new ≡ out.old
+        ++ value_tokens (array_of (map (λ p. words_data report.now.prefer (view report.now.tree) family.Selection (view p.1.now)) pairs.now))) }
 {
     out.begin_array()?;
     for pair in pairs {

@@ -67,7 +67,8 @@ pub(crate) fn write_selections(
     selections: &[Value],
     out: &mut Output,
 ) -> Result<(), AllocError>
-    ensures { OnOk result (AreNamedFrom report.now.prefer (view report.now.tree) start (map view selections.now) → items_have_float (items_view selections.now) ≡ false
+    ensures { OnOk result (AreNamedFrom report.now.prefer (view report.now.tree) start (map view selections.now)
+        → items_have_float (items_view selections.now) ≡ false
         → out.new ≡ out.old ++ value_tokens (shown_selections report.now.prefer (view report.now.tree) (map view selections.now))) }
 {
     let pairs = in_order(alloc, named_selections(alloc, report, start, selections)?)?;

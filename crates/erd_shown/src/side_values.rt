@@ -33,7 +33,7 @@ use std::alloc::{AllocError, Global};
 /// and a difference of a contest has its selections by name. The name `ElectionId` asks for the key of the election that holds
 /// the object. The report itself has no key, and selections are not found by keys.
 ///
-/// An election is sought among all elections of the report, an object of a family by its key.
+/// An election is sought in the order of the keys of elections, an object of a family by its key.
 ///
 /// # Errors
 ///

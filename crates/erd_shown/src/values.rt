@@ -18,6 +18,7 @@ use std::alloc::{AllocError, Global};
 
 /// Returns whether a value of this kind means anything by itself: it is not an empty array of the table, nor a value of a kind
 /// that means nothing.
+#[tactic(auto, using(crate::proofs::EmptyArrays::unless_by_test))]
 pub(crate) fn is_shown(kind: MemberKind, value: &Value) -> bool
     ensures { (π : Preference) (t : Data) → result ≡ is_some (shown_value π t kind (view value.now)) }
 {
@@ -45,7 +46,8 @@ pub(crate) fn write_shown(
     out: &mut Output,
 ) -> Result<(), AllocError>
     requires keyed { names_keys kind ≡ true }
-    ensures { OnOk result (has_float (view value.now) ≡ false → (d : Data) → shown_value report.now.prefer (view report.now.tree) kind (view value.now) ≡ Some d → out.new ≡ out.old ++ value_tokens d) }
+    ensures { OnOk result (has_float (view value.now) ≡ false → (d : Data) → shown_value report.now.prefer (view report.now.tree) kind (view value.now) ≡ Some d
+        → out.new ≡ out.old ++ value_tokens d) }
 {
     match kind {
         MemberKind::Label => write_label(alloc, value, out),

@@ -25,7 +25,8 @@ pub(crate) fn words_text(
     family: Family,
     object: &Value,
 ) -> Result<String, AllocError>
-    ensures { IfOk result (λ text. has_float (view object.now) ≡ false → string_bytes text ≡ words_text report.now.prefer (view report.now.tree) family (view object.now)) }
+    ensures { IfOk result (λ text. has_float (view object.now) ≡ false → string_bytes text ≡ words_text report.now.prefer (view report.now.tree)
+        family (view object.now)) }
 {
     let mut out = Output::new(alloc);
     write_words(alloc, report, family, object, &mut out)?;
@@ -40,7 +41,8 @@ pub(crate) fn write_words(
     object: &Value,
     out: &mut Output,
 ) -> Result<(), AllocError>
-    ensures { OnOk result (has_float (view object.now) ≡ false → out.new ≡ out.old ++ value_tokens (words_data report.now.prefer (view report.now.tree) family (view object.now))) }
+    ensures { OnOk result (has_float (view object.now) ≡ false → out.new ≡ out.old
+        ++ value_tokens (words_data report.now.prefer (view report.now.tree) family (view object.now))) }
 {
     match class_of_object(Role::OfFamily(family), object) {
         Some(class) => write_words_in_class(alloc, report, class, object, out),
@@ -56,7 +58,8 @@ fn write_words_in_class(
     object: &Value,
     out: &mut Output,
 ) -> Result<(), AllocError>
-    ensures { OnOk result (has_float (view object.now) ≡ false → out.new ≡ out.old ++ value_tokens (words_in_class report.now.prefer (view report.now.tree) class (view object.now))) }
+    ensures { OnOk result (has_float (view object.now) ≡ false → out.new ≡ out.old
+        ++ value_tokens (words_in_class report.now.prefer (view report.now.tree) class (view object.now))) }
 {
     out.begin_object()?;
     match object {

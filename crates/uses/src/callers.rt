@@ -13,7 +13,7 @@ use erd_check::{CheckError, shape};
 use erd_compare::first_difference;
 use erd_meaning::{Report, resolve};
 use erd_normal::normal_tree;
-use erd_tables::Family;
+use erd_tables::{Family, FaultList};
 use serde_json::Value;
 use std::alloc::{AllocError, Global};
 use thiserror::Error;
@@ -35,16 +35,19 @@ pub fn is_same(alloc: Global, left: &[u8], right: &[u8]) -> Result<bool, Refusal
 
 /// The lines of all faults of a file, each with a line feed. An accepted file has none.
 pub fn fault_lines(alloc: Global, bytes: &[u8]) -> Result<String, Trouble> {
-    let mut lines = String::new(alloc);
     match check_bytes(alloc, bytes) {
-        Ok(()) => {}
-        Err(Refusal::Faults(faults)) => {
-            for fault in faults.iter() {
-                lines.push_str(&fault.line(alloc)?)?;
-                lines.push('\n')?;
-            }
-        }
-        Err(other) => return Err(Trouble::Refused(other)),
+        Ok(()) => Ok(String::new(alloc)),
+        Err(Refusal::Faults(faults)) => Ok(lines_of(alloc, &faults)?),
+        Err(other) => Err(Trouble::Refused(other)),
+    }
+}
+
+/// The lines of these faults.
+fn lines_of(alloc: Global, faults: &FaultList) -> Result<String, AllocError> {
+    let mut lines = String::new(alloc);
+    for fault in faults.iter() {
+        lines.push_str(&fault.line(alloc)?)?;
+        lines.push('\n')?;
     }
     Ok(lines)
 }

@@ -1,5 +1,6 @@
 //! A short example of each public call, as a caller writes it. The doc comment of the call has the same lines, where
-//! `assert_eq!` may stand for `assert!`.
+//! `assert_eq!` may stand for `assert!`. What several lines assert stands here in one condition: the proof takes a third of the
+//! time.
 mod ballots;
 mod bytes;
 mod data;

@@ -7,22 +7,40 @@ use std::alloc::{AllocError, Global};
 use std::fmt::InlineText;
 use std::test::Fail;
 
-pub const REPORT: &str =
-    r#"{"@type":"ElectionResults.ElectionReport","Status":"pre-election","GpUnit":[{"@id":"u7","@type":"ElectionResults.ReportingUnit","Type":"county","ExternalIdentifier":[{"@type":"ElectionResults.ExternalIdentifier","Type":"local-level","Value":"U1"}]}],"Election":[{"@type":"ElectionResults.Election","Name":"Test","Type":"general","StartDate":"2026-11-03","EndDate":"2026-11-03","ElectionScopeId":"u7"}]}"#;
+pub const REPORT: &str = concat!(
+    r#"{"@type":"ElectionResults.ElectionReport","Status":"pre-election","GpUnit":[{"@id":"u7","@type":"ElectionResults.ReportingUnit","#,
+    r#""Type":"county","ExternalIdentifier":[{"@type":"ElectionResults.ExternalIdentifier","Type":"local-level","Value":"U1"}]}],"#,
+    r#""Election":[{"@type":"ElectionResults.Election","Name":"Test","Type":"general","StartDate":"2026-11-03","EndDate":"2026-11-03","#,
+    r#""ElectionScopeId":"u7"}]}"#,
+);
 
 // The same report with another `@id`, and members in another order.
-pub const OTHER_SPELLING: &str =
-    r#"{"Election":[{"@type":"ElectionResults.Election","ElectionScopeId":"county","EndDate":"2026-11-03","StartDate":"2026-11-03","Type":"general","Name":"Test"}],"GpUnit":[{"Type":"county","@id":"county","@type":"ElectionResults.ReportingUnit","ExternalIdentifier":[{"Value":"U1","Type":"local-level","@type":"ElectionResults.ExternalIdentifier"}]}],"Status":"pre-election","@type":"ElectionResults.ElectionReport"}"#;
+pub const OTHER_SPELLING: &str = concat!(
+    r#"{"Election":[{"@type":"ElectionResults.Election","ElectionScopeId":"county","EndDate":"2026-11-03","StartDate":"2026-11-03","#,
+    r#""Type":"general","Name":"Test"}],"GpUnit":[{"Type":"county","@id":"county","@type":"ElectionResults.ReportingUnit","#,
+    r#""ExternalIdentifier":[{"Value":"U1","Type":"local-level","@type":"ElectionResults.ExternalIdentifier"}]}],"#,
+    r#""Status":"pre-election","@type":"ElectionResults.ElectionReport"}"#,
+);
 
 // The same with another name of the election.
-pub const OTHER_NAME: &str =
-    r#"{"@type":"ElectionResults.ElectionReport","Status":"pre-election","GpUnit":[{"@id":"u7","@type":"ElectionResults.ReportingUnit","Type":"county","ExternalIdentifier":[{"@type":"ElectionResults.ExternalIdentifier","Type":"local-level","Value":"U1"}]}],"Election":[{"@type":"ElectionResults.Election","Name":"Other","Type":"general","StartDate":"2026-11-03","EndDate":"2026-11-03","ElectionScopeId":"u7"}]}"#;
+pub const OTHER_NAME: &str = concat!(
+    r#"{"@type":"ElectionResults.ElectionReport","Status":"pre-election","GpUnit":[{"@id":"u7","@type":"ElectionResults.ReportingUnit","#,
+    r#""Type":"county","ExternalIdentifier":[{"@type":"ElectionResults.ExternalIdentifier","Type":"local-level","Value":"U1"}]}],"#,
+    r#""Election":[{"@type":"ElectionResults.Election","Name":"Other","Type":"general","StartDate":"2026-11-03","EndDate":"2026-11-03","#,
+    r#""ElectionScopeId":"u7"}]}"#,
+);
 
 // No member but its class.
 pub const BARE: &str = r#"{"@type":"ElectionResults.ElectionReport"}"#;
 
-pub const CANONICAL: &str =
-    r#"{"@type":"ElectionResults.ElectionReport","Election":[{"@type":"ElectionResults.Election","ElectionScopeId":"gp1","EndDate":"2026-11-03","Name":"Test","StartDate":"2026-11-03","Type":"general"}],"Format":"summary-contest","GeneratedDate":"2000-01-01T00:00:00Z","GpUnit":[{"@id":"gp1","@type":"ElectionResults.ReportingUnit","ExternalIdentifier":[{"@type":"ElectionResults.ExternalIdentifier","Type":"local-level","Value":"U1"}],"Type":"county"}],"Issuer":"canonical","IssuerAbbreviation":"canonical","SequenceEnd":1,"SequenceStart":1,"Status":"pre-election","VendorApplicationId":"canonical"}"#;
+pub const CANONICAL: &str = concat!(
+    r#"{"@type":"ElectionResults.ElectionReport","Election":[{"@type":"ElectionResults.Election","ElectionScopeId":"gp1","#,
+    r#""EndDate":"2026-11-03","Name":"Test","StartDate":"2026-11-03","Type":"general"}],"Format":"summary-contest","#,
+    r#""GeneratedDate":"2000-01-01T00:00:00Z","GpUnit":[{"@id":"gp1","@type":"ElectionResults.ReportingUnit","#,
+    r#""ExternalIdentifier":[{"@type":"ElectionResults.ExternalIdentifier","Type":"local-level","Value":"U1"}],"Type":"county"}],"#,
+    r#""Issuer":"canonical","IssuerAbbreviation":"canonical","SequenceEnd":1,"SequenceStart":1,"Status":"pre-election","#,
+    r#""VendorApplicationId":"canonical"}"#,
+);
 
 // What a caller prints of an error, whichever it is.
 fn text<T: Drop, E: std::error::Error>(found: Result<T, E>) -> InlineText<64> {

@@ -116,6 +116,7 @@ PIECE_OF_TWO_REPORTS(erd_compare_piece)
 PIECE_OF_TWO_REPORTS(erd_differences)
 PIECE_OF_TWO_REPORTS(erd_compare_data_piece)
 PIECE_OF_TWO_REPORTS(erd_differences_data)
+PIECE_OF_TWO_REPORTS(erd_differences_values)
 
 uint32_t exported_erd_ballot(address bytes, uint32_t size, address prefer, uint32_t position, address text, address length)
     EXPORTED("erd_ballot");
@@ -123,6 +124,17 @@ uint32_t exported_erd_ballot(address bytes, uint32_t size, address prefer, uint3
     struct answer answer = {NULL, 0};
     enum erd_outcome outcome =
         erd_ballot(at(bytes), size, at(prefer), position, text != 0 ? &answer.text : NULL, &answer.length);
+    return handed_on(outcome, answer, text, length);
+}
+
+uint32_t exported_erd_ballots_beside(address left, uint32_t left_size, address right, uint32_t right_size, address prefer,
+                                     uint32_t left_position, uint32_t right_position, address text, address length)
+    EXPORTED("erd_ballots_beside");
+uint32_t exported_erd_ballots_beside(address left, uint32_t left_size, address right, uint32_t right_size, address prefer,
+                                     uint32_t left_position, uint32_t right_position, address text, address length) {
+    struct answer answer = {NULL, 0};
+    enum erd_outcome outcome = erd_ballots_beside(at(left), left_size, at(right), right_size, at(prefer), left_position,
+                                                  right_position, text != 0 ? &answer.text : NULL, &answer.length);
     return handed_on(outcome, answer, text, length);
 }
 

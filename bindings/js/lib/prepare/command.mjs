@@ -2,34 +2,35 @@
 import { bytesOfFile, checkThere, opened, STANDARD_ERROR, STANDARD_OUTPUT, Stop, write } from '../files.mjs';
 import { isXml, WHERE_CONVERTED } from '../xml.mjs';
 import { GROUP_WORDS, STEP_WORDS } from './step_words.mjs';
-import { NUMBERS } from './prepared.mjs';
+import { hasMark, withoutMark } from '../tree.mjs';
+import { lineOfRemedy, NUMBERS } from './prepared.mjs';
 
 const USUAL = 'removed';
+const MARK_LINE = 'byte order mark: taken off\n';
+const REFUSED = 1;
 const NOT_JSON = 2;
 
 /** Does what the request asks for, and returns the status. */
 export function prepared(erd, { files, list, prefer, report, steps }) {
     const names = list ? '' : steps ?? USUAL;
     checkNames(names);
-    const bytes = bytesOfFile(opened(files)[0]);
+    const given = bytesOfFile(opened(files)[0]);
+    const [bytes, mark] = hasMark(given) ? [withoutMark(given), MARK_LINE] : [given, ''];
     const made = erd.prepared(bytes, names, { tellsOthers: list || report });
     if (made === null) {
-        write(STANDARD_ERROR, isXml(bytes) ? `not JSON; ${WHERE_CONVERTED}\n` : 'not JSON\n');
+        write(STANDARD_ERROR, mark + (isXml(bytes) ? `not JSON; ${WHERE_CONVERTED}\n` : 'not JSON\n'));
         return NOT_JSON;
     }
-    if (report) {
-        write(STANDARD_OUTPUT, made.told);
-        write(STANDARD_OUTPUT, '\n');
-        return 0;
-    }
     const told = JSON.parse(new TextDecoder().decode(made.told));
-    if (list) {
-        write(STANDARD_OUTPUT, told.filter(({ step }) => step !== NUMBERS).map(listed).join(''));
+    if (list || report) {
+        write(STANDARD_OUTPUT, report ? made.told : told.filter(({ step }) => step !== NUMBERS).map(listed).join(''));
+        write(STANDARD_OUTPUT, report ? '\n' : '');
+        write(STANDARD_ERROR, mark);
         return 0;
     }
     checkThere(STANDARD_OUTPUT);
     write(STANDARD_OUTPUT, made.bytes);
-    write(STANDARD_ERROR, told.map((done) => `${done.step}: ${counts(done)}\n`).join(''));
+    write(STANDARD_ERROR, mark + told.map((done) => `${done.step}: ${counts(done)}\n`).join(''));
     return judged(erd, made.bytes, prefer);
 }
 
@@ -49,16 +50,16 @@ function counts({ count, left_count: left }) {
     return [[count, 'changed'], [left, 'left']].filter(([many]) => many > 0).map((words) => words.join(' ')).join(', ');
 }
 
-// Writes what `erd check` writes of a report that is still refused, and returns its status.
+// Judges the copy, which is written by now. If it is refused, writes why, and then a line for each reason: what may fix its faults.
 function judged(erd, bytes, prefer) {
-    let status = 0;
-    const writeRefused = (lines, outcome) => {
-        if (outcome !== 0) {
-            write(STANDARD_ERROR, lines);
+    const reasons = new Set();
+    for (const found of erd.checkedByPieces(bytes, { prefer })) {
+        if (found.accepted) {
+            return 0;
         }
-    };
-    for (const piece of erd.written('check', [bytes], { prefer }, writeRefused)) {
-        status = piece.status;
+        write(STANDARD_ERROR, found.text);
+        found.faults.forEach(({ reason }) => reasons.add(reason));
     }
-    return status;
+    write(STANDARD_ERROR, [...reasons].map((reason) => `${lineOfRemedy(reason)}\n`).join(''));
+    return REFUSED;
 }

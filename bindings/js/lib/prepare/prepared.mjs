@@ -1,7 +1,7 @@
 // Prepares a report: the proved code does the steps, and this hands on what it tells.
 import { NotJson } from '../scanner.mjs';
 import { compactText, hasMark, readTree, withoutMark } from '../tree.mjs';
-import { pointerOf } from '../words.mjs';
+import { pointerOf, wordsOf } from '../words.mjs';
 import { REMEDIES, STEP_WORDS } from './step_words.mjs';
 
 /** The step that concerns the bytes and not the tree. The proved code takes bytes without a mark. */
@@ -22,6 +22,13 @@ export function stepsOf(...groups) {
 export function remedyOf(reason) {
     const [steps, letter] = REMEDIES[reason];
     return { steps, letter };
+}
+
+/** The line that `erd prepare` writes about a reason that is left. */
+export function lineOfRemedy(reason) {
+    const { steps, letter } = remedyOf(reason);
+    const ways = steps.length === 0 ? 'no step fixes it; ask' : `steps that may fix it: ${steps.join(', ')}; otherwise ask`;
+    return `reason ${reason} (${wordsOf(reason)}): ${ways} the vendor: ${letter}`;
 }
 
 /** A file that is being prepared. */
@@ -67,6 +74,20 @@ export class Preparation {
         const isChanged = steps.some(({ name, done, count }) => name !== NUMBERS && done && count > 0);
         return isChanged ? { bytes: prepared.bytes, steps } : { bytes: report, steps: steps.filter(({ name }) => name !== NUMBERS) };
     }
+}
+
+/**
+ * Does the same steps on copies of two reports, and compares the copies. If a copy is refused, the comparison has its faults.
+ * @param {Uint8Array} left
+ * @param {Uint8Array} right
+ * @param {Iterable<string>} names
+ * @param {import('../calls.mjs').Erd} erd what `load` has made
+ * @throws {NotJson} if the bytes of one are not JSON behind a byte order mark
+ */
+export function comparePrepared(left, right, names, erd, options) {
+    const chosen = [...names];
+    const [leftCopy, rightCopy] = [left, right].map((report) => new Preparation(report, erd).prepare(chosen));
+    return { compared: erd.compare(leftCopy.bytes, rightCopy.bytes, options), left: leftCopy, right: rightCopy };
 }
 
 function markStep(done) {

@@ -31,16 +31,18 @@ import os
 import warnings
 from typing import Optional, TypeVar, Union
 
-from .ballots import (Ballot, BallotDifference, BallotDifferences, BallotHead, BallotLine, Ballots, OneBallot, ballot_difference_of,
-                      ballot_of, head_of)
+from .ballots import (Ballot, BallotDifference, BallotDifferences, BallotHead, BallotLine, BallotRow, Ballots, BallotsBeside, OneBallot,
+                      SelectionRow, ballot_difference_of, ballot_of, beside_of, head_of)
 from .library import ALL, TooLong, ballots_told, version
 from .listing import MOST_LISTED, bytes_of_type, listed, utf_8
 from .repeats import RepeatedName, RepeatedNames, repeated_names
 from .results import (Canonical, Check, Comparison, Difference, Differences, Fault, SelectionDifference, SelectionName, check_of,
                       comparison_of, differences_of)
 
-__all__ = ['Ballot', 'BallotDifference', 'BallotDifferences', 'BallotHead', 'BallotLine', 'Ballots', 'Canonical', 'Check', 'Comparison', 'Difference', 'Differences', 'Fault', 'MOST_LISTED', 'OneBallot', 'RepeatedName', 'RepeatedNames',
-           'SelectionDifference', 'SelectionName', 'TooLong', 'ballot', 'ballot_differences', 'ballots', 'canonical', 'check', 'compare', 'differences', 'repeated_names', 'version']
+__all__ = ['Ballot', 'BallotDifference', 'BallotDifferences', 'BallotHead', 'BallotLine', 'BallotRow', 'Ballots', 'BallotsBeside', 'Canonical', 'Check',
+           'Comparison', 'Difference', 'Differences', 'Fault', 'MOST_LISTED', 'OneBallot', 'RepeatedName', 'RepeatedNames', 'SelectionDifference',
+           'SelectionName', 'SelectionRow', 'TooLong', 'ballot', 'ballot_differences', 'ballots', 'ballots_beside', 'canonical', 'check', 'compare',
+           'differences', 'repeated_names', 'version']
 
 Report = Union[bytes, bytearray, memoryview, str]
 OfPair = TypeVar('OfPair', Comparison, Differences)
@@ -90,7 +92,7 @@ def differences(left: Report, right: Report, *, prefer: Optional[str] = None,
     >>> differences('{', '{').lines
     ('left: not JSON',)
     """
-    data, count = listed('erd_differences_data', (bytes_of(left), bytes_of(right)), prefer, most_differences)
+    data, count = listed('erd_differences_values', (bytes_of(left), bytes_of(right)), prefer, most_differences)
     return hinted_pair(left, right, differences_of(data, count))
 
 
@@ -114,10 +116,7 @@ def ballot(report: Report, position: int, *, prefer: Optional[str] = None, most_
     >>> ballot('{', 0).ballot is None
     True
     """
-    if not isinstance(position, int):
-        raise TypeError(f'a position is a whole number, and not {type(position).__name__}')
-    if not 0 <= position <= ALL:
-        raise ValueError('a position is below 0 or too large')
+    check_position(position)
     found = judged(report, prefer, most_faults)
     if not found.accepted:
         return OneBallot(found)
@@ -126,24 +125,57 @@ def ballot(report: Report, position: int, *, prefer: Optional[str] = None, most_
 
 def ballot_differences(left: Report, right: Report, *, prefer: Optional[str] = None,
                        most_faults: Optional[int] = MOST_LISTED) -> BallotDifferences:
-    """Returns which ballots are not the same in the two reports, or the faults of the first report that is refused. The words of
-    contests, headers, candidates and parties are not compared: `differences` tells of them.
+    """Returns which ballots are not the same in the two reports and what differs on each, or the faults of the first report that is
+    refused. What no ballot prints is not compared: `differences` tells of it.
 
     >>> ballot_differences('{', '{').lines
     ('left: not JSON',)
     """
-    for side, report in (('left', left), ('right', right)):
-        found = judged(report, prefer, most_faults)
-        if not found.accepted:
-            return BallotDifferences(refused=side, check=found)
+    side, found = refused_of(left, right, prefer, most_faults)
+    if side is not None:
+        return BallotDifferences(refused=side, check=found)
     _, told = ballots_told('erd_ballot_differences', (bytes_of(left), bytes_of(right)), bytes_of_type(prefer))
     return BallotDifferences(tuple(map(ballot_difference_of, json.loads(told))))
 
 
-def judged(report: Report, prefer: Optional[str], most_faults: Optional[int]) -> Check:
+def ballots_beside(left: Report, right: Report, left_position: int, right_position: int, *, prefer: Optional[str] = None,
+                   most_faults: Optional[int] = MOST_LISTED) -> BallotsBeside:
+    """Returns the ballots of the styles at a position of each report beside each other, or the faults of the first report that is
+    refused. `ballot_differences` tells the positions.
+
+    >>> ballots_beside('{', '{', 0, 0).refused
+    'left'
+    """
+    check_position(left_position)
+    check_position(right_position)
+    side, found = refused_of(left, right, prefer, most_faults)
+    if side is not None:
+        return BallotsBeside(refused=side, check=found)
+    _, told = ballots_told('erd_ballots_beside', (bytes_of(left), bytes_of(right)), bytes_of_type(prefer), left_position, right_position)
+    return beside_of(json.loads(told))
+
+
+def check_position(position: int) -> None:
+    """Refuses what is no position of a style."""
+    if not isinstance(position, int):
+        raise TypeError(f'a position is a whole number, and not {type(position).__name__}')
+    if not 0 <= position <= ALL:
+        raise ValueError('a position is below 0 or too large')
+
+
+def refused_of(left: Report, right: Report, prefer: Optional[str], most_faults: Optional[int]) -> Tuple[Optional[str], Optional[Check]]:
+    """Returns the side of the first of two reports that is refused, and how it is judged."""
+    for side, report in (('left', left), ('right', right)):
+        found = judged(report, prefer, most_faults, calls=2)
+        if not found.accepted:
+            return side, found
+    return None, None
+
+
+def judged(report: Report, prefer: Optional[str], most_faults: Optional[int], calls: int = 1) -> Check:
     """Checks a report for another call. So its faults are never in memory as a whole, as they would be in the answer of that call."""
     data, count = listed('erd_check_data_piece', (bytes_of(report),), prefer, most_faults)
-    return hinted(report, check_of(data, count), calls=1)
+    return hinted(report, check_of(data, count), calls)
 
 
 def hinted(report: Report, found: Check, calls: int = 0) -> Check:

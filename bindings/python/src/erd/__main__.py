@@ -29,7 +29,7 @@ CALLS = {
 CALLS_FOR_JSON = {
     'check': 'erd_check_data_piece',
     'compare': 'erd_compare_data_piece',
-    'differences': 'erd_differences_data',
+    'differences': 'erd_differences_values',
 }
 
 

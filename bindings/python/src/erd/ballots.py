@@ -112,6 +112,9 @@ class BallotDifference:
     right: Optional[int]
     """Its position in the right report, if that has it."""
 
+    below: Tuple[str, ...] = ()
+    """What differs on its ballots, if both reports have it: the lines that `erd ballots` writes below its own, without their line feeds."""
+
     @property
     def how(self) -> str:
         """One of `only left`, `only right` and `differs`."""
@@ -149,10 +152,60 @@ class BallotDifferences:
         """The lines that `erd ballots` writes, as far as the faults of a refused report are listed."""
         if self.check is not None:
             return tuple(f'{self.refused}: {line}' for line in self.check.lines)
-        return ('same ballots',) if self.same else tuple(difference.line for difference in self.differences)
+        return ('same ballots',) if self.same else tuple(line for it in self.differences for line in (it.line, *it.below))
 
     def __bool__(self) -> bool:
         return self.same
+
+
+@dataclass(frozen=True)
+class SelectionRow:
+    """A selection of a contest on two ballots."""
+
+    how: str
+    """One of `both`, `removed`, `added`, `moved away` and `moved here`."""
+
+    name: SelectionName
+
+
+@dataclass(frozen=True)
+class BallotRow:
+    """A line of two ballots. One that moved has a row where each ballot has it."""
+
+    how: str
+    """One of `both`, `removed`, `added`, `moved away` and `moved here`."""
+
+    left: Optional[int]
+    """Its position in the left ballot, if that has it."""
+
+    right: Optional[int]
+    """Its position in the right ballot, if that has it."""
+
+    selections: Tuple[SelectionRow, ...]
+    """The selections of a contest of both, by their names. Ballots that list none tell no moves."""
+
+
+@dataclass(frozen=True)
+class BallotsBeside:
+    """Two ballots beside each other, or why they are not there."""
+
+    left: Tuple[BallotLine, ...] = ()
+    """The lines of the left ballot."""
+
+    right: Tuple[BallotLine, ...] = ()
+    """The lines of the right ballot."""
+
+    rows: Tuple[BallotRow, ...] = ()
+    """Each line of either ballot once, in its order."""
+
+    is_there: bool = False
+    """Whether both reports are accepted and have a style at their positions."""
+
+    refused: Optional[str] = None
+    """`left` or `right`, if that report is refused. The right one is judged only if the left one is accepted."""
+
+    check: Optional[Check] = None
+    """The result of checking the report that is refused."""
 
 
 def keys_of(data: List[list]) -> Tuple[Key, ...]:
@@ -180,4 +233,18 @@ def ballot_of(data: Optional[dict]) -> Optional[Ballot]:
 
 def ballot_difference_of(data: dict) -> BallotDifference:
     """Returns the difference that one object of the library's JSON describes."""
-    return BallotDifference(key_of(data['key']), data['left'], data['right'])
+    return BallotDifference(key_of(data['key']), data['left'], data['right'], tuple(data['below'].split('\n')[:-1]))
+
+
+def ballot_row_of(data: dict) -> BallotRow:
+    """Returns the row of two ballots that one object of the library's JSON describes."""
+    selections = tuple(SelectionRow(inner['how'], selection_name_of(inner['name'])) for inner in data['selections'])
+    return BallotRow(data['how'], data['left'], data['right'], selections)
+
+
+def beside_of(data: Optional[dict]) -> BallotsBeside:
+    """Returns the two ballots that the library's JSON describes, if they are there."""
+    if data is None:
+        return BallotsBeside()
+    left, right = (tuple(map(ballot_line_of, data[side])) for side in ('left', 'right'))
+    return BallotsBeside(left, right, tuple(map(ballot_row_of, data['rows'])), True)

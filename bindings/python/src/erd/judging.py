@@ -5,8 +5,8 @@ from __future__ import annotations
 import hashlib
 import os
 import stat
-from dataclasses import dataclass
-from typing import Optional, Sequence
+from dataclasses import dataclass, field
+from typing import List, Optional, Sequence
 
 from . import TooLong, canonical
 from .prepare import NotJson, prepare
@@ -27,6 +27,9 @@ class Row:
     group: Optional[int] = None
     prepared: Optional[str] = None
     """Which steps changed something before the file was judged, if any were asked for."""
+
+    reasons: List[int] = field(default_factory=list)
+    """The numbers of the reasons of its first thousand faults, rising."""
 
     @property
     def status(self) -> int:
@@ -55,7 +58,7 @@ def judge(file: str, prefer: Optional[str], steps: Sequence[str] = (), folder: s
         if steps:
             data, done = prepare(data, steps)
             told = ', '.join(f'{step.name} {step.count}' for step in done if step.count)
-        result = canonical(data, prefer=prefer, most_faults=1)
+        result = canonical(data, prefer=prefer)
     except NotJson:
         return Row(file, NOT_JSON)
     except TooLong:
@@ -68,4 +71,5 @@ def judge(file: str, prefer: Optional[str], steps: Sequence[str] = (), folder: s
         return Row(file, f'{type(error).__name__}: {error}')
     if result.form is not None:
         return Row(file, ACCEPTED, sha256=hashlib.sha256(result.form).hexdigest(), prepared=told)
-    return Row(file, REFUSED if result.check.is_json else NOT_JSON, result.check.all_faults, prepared=told)
+    reasons = sorted({fault.reason for fault in result.check.faults})
+    return Row(file, REFUSED if result.check.is_json else NOT_JSON, result.check.all_faults, prepared=told, reasons=reasons)

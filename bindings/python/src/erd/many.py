@@ -14,6 +14,7 @@ import io
 import json
 import os
 import sys
+from collections import Counter
 from functools import partial
 from pathlib import PurePath
 from typing import Dict, Iterable, Iterator, List, Optional
@@ -21,6 +22,7 @@ from typing import Dict, Iterable, Iterator, List, Optional
 from .journal import Journal
 from .judging import Row, judge
 from .parsing import Done, Parser, Version, above_zero, names_of_steps, not_empty
+from .prepare import remedy_of
 from .repeats import visible
 from .running import run_here, run_on_cluster
 from .streams import (INTERRUPTED, STANDARD_ERROR, STANDARD_OUTPUT, ReaderGone, Stop, is_terminal, status_of, tell, write_text)
@@ -74,7 +76,13 @@ def table_of(rows: List[Row]) -> str:
     told = sum(row.group is not None for row in rows)
     groups = max((row.group or 0 for row in rows), default=0)
     return ''.join('  '.join(cell.ljust(width) for cell, width in zip(line, widths)).rstrip() + '\n' for line in (heads, *lines)) \
-        + f'\n{len(rows)} files, {told} accepted, in {groups} {"group" if groups == 1 else "groups"}\n'
+        + f'\n{len(rows)} files, {told} accepted, in {groups} {"group" if groups == 1 else "groups"}\n' + remedies_of(rows)
+
+
+def remedies_of(rows: List[Row]) -> str:
+    """Returns a line for each reason of faults: how many files have it, which steps may fix it, and what to ask the vendor for."""
+    counts = Counter(reason for row in rows for reason in row.reasons)
+    return ''.join(f'{count} {"file" if count == 1 else "files"}: {remedy_of(reason).line(reason)}\n' for reason, count in sorted(counts.items()))
 
 
 def json_of(rows: List[Row]) -> str:

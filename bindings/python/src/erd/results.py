@@ -3,8 +3,8 @@
 from __future__ import annotations
 
 import json
-from dataclasses import dataclass
-from typing import NamedTuple, Optional, Tuple, Union
+from dataclasses import dataclass, field
+from typing import Dict, NamedTuple, Optional, Tuple, Union
 
 Step = Union[str, int]
 
@@ -140,6 +140,11 @@ class Difference:
     `ContestSelection`. Only `differences` tells it. It is None too where the names of selections and of what differs, from the first
     difference of the list on, have more than a megabyte together; if all differences are asked for, this holds for as much of the
     list as is kept at a time: at least 16 megabytes."""
+
+    values: Optional[Dict[str, object]] = field(default=None, hash=False)
+    """What either report has there, under `left` and `right`, as `json.loads` reads it: the value of the member; or the record of the
+    object, with its `class`, the key of its `election` and its `members`. Keys stand in place of references. A report that has nothing
+    there is left out. Only `differences` tells it, and not of the selections of contests or of the content of ballots."""
 
     @property
     def line(self) -> str:
@@ -336,7 +341,7 @@ def difference_of(data: dict) -> Difference:
     """Returns the difference that one object of the library's JSON describes."""
     inside = data.get('selections')
     selections = None if inside is None else tuple(map(selection_difference_of, inside))
-    return Difference(data['part'], key_of(data['key']), data['how'], data.get('member'), selections)
+    return Difference(data['part'], key_of(data['key']), data['how'], data.get('member'), selections, data.get('values'))
 
 
 def selection_difference_of(data: dict) -> SelectionDifference:

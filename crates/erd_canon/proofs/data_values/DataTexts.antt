@@ -1,5 +1,11 @@
 -- The texts of the values that calls answer as data.
-use Rattle.erd_canon.proofs.Common.{◌≡◌, ℕ, ◌^◌, ◌<◌, ◌≤◌, false, ◌⊎◌, List, [], ◌++◌, pos, negsuc, Some, codes, IsUtf8, sym, refl, ap, ◌∙◌, subst, inl, inr, append_assoc, arith, Num, unsigned, negative, float, Data, number, string, array, object, Items, no_items, item, Members, no_members, member, depth, read, max_depth, number_text, outline, items_outline, members_outline, has_float, compact_text, IsFittingNumber, HasFittingNumbers, ItemsHaveFittingNumbers, MembersHaveFittingNumbers, IsTree, Preference, digits, serde_json_on_literals, signed_decimal, Difference, Option, comparison_data, refused_data, IsComparison, IsSomeReport, RefusedAs, RefusedSide, TellsRefusalAs, AppendsData, AnswersData, NamesSide, TellsSideAs, Refusal, refusal, Outcome, Bad, Good, NotJson}
+use Rattle.erd_canon.proofs.Common.{◌≡◌, ℕ, ◌^◌, ◌<◌, ◌≤◌, false, ◌⊎◌, List, [], ◌++◌, pos, negsuc, Some, codes, IsUtf8, sym, refl, ap, ◌∙◌, subst, inl, inr}
+use Rattle.erd_canon.proofs.Common.{append_assoc, arith, Num, unsigned, negative, float, Data, number, string, array, object, Items, no_items, item, Members}
+use Rattle.erd_canon.proofs.Common.{no_members, member, depth, read, max_depth, number_text, outline, items_outline, members_outline, has_float, compact_text}
+use Rattle.erd_canon.proofs.Common.{IsFittingNumber, HasFittingNumbers, ItemsHaveFittingNumbers, MembersHaveFittingNumbers, IsTree, Preference, digits}
+use Rattle.erd_canon.proofs.Common.{serde_json_on_literals, signed_decimal, Difference, Option, comparison_data, refused_data, IsComparison, IsSomeReport}
+use Rattle.erd_canon.proofs.Common.{RefusedAs, RefusedSide, TellsRefusalAs, AppendsData, AnswersData, NamesSide, TellsSideAs, Refusal, refusal, Outcome, Bad}
+use Rattle.erd_canon.proofs.Common.{Good, NotJson}
 use Rattle.std.proofs.lemmas.Bool.{cases_eq}
 use Rattle.serde_json.proofs.Texts.{print-outline}
 use Rattle.json.specs.Lex.{tokens}
@@ -65,7 +71,8 @@ pub data_text : (text : List ℕ) (d : Data) → IsUtf8 text → text ≡ compac
 data_text text d utf8 is tree fit shallow = record { written = is; reads_back = (utf8, ap read is ∙ compact_read d tree fit shallow) }
 
 -- what a writer promises of the text of a value without a number that is not whole
-pub value_text : (text : List ℕ) (v d : Data) → (depth d ≤ 2) × (has_float d ≡ false) → v ≡ d → (has_float v ≡ false → text ≡ compact_text v) → (depth v ≤ max_depth → read text ≡ Some v)
+pub value_text : (text : List ℕ) (v d : Data) → (depth d ≤ 2) × (has_float d ≡ false) → v ≡ d → (has_float v ≡ false → text ≡ compact_text v)
+    → (depth v ≤ max_depth → read text ≡ Some v)
     → IsUtf8 text → IsDataText text d
 value_text text v d known same written read_back utf8 = record {
   written = written (ap has_float same ∙ known.1) ∙ ap compact_text same;
@@ -73,10 +80,16 @@ value_text text v d known same written read_back utf8 = record {
 }
 
 -- the text of a value alone
-pub text_alone : (Says : Data → Type 0) (before text : List ℕ) → ((d : Data) → Says d → IsLowTree d) → before ≡ [] → AppendsData Says before text → IsUtf8 text → AnswersData Says text
+pub text_alone : (Says : Data → Type 0) (before text : List ℕ) → ((d : Data) → Says d → IsLowTree d) → before ≡ [] → AppendsData Says before text → IsUtf8 text
+    → AnswersData Says text
 text_alone Says before text known none a utf8 =
     let low = known a.value a.says in
-    record { value = a.value; says = a.says; is_text = data_text text a.value utf8 (a.wrote ∙ ap (λ t. t ++ compact_text a.value) none) low.0 a.fits (omega (arith, low.1)) }
+    record {
+      value = a.value;
+      says = a.says;
+      is_text = data_text text a.value utf8 (a.wrote ∙ ap (λ t. t ++ compact_text a.value) none) low.0 a.fits
+          (omega (arith, low.1));
+    }
 
 -- the object that names a side, piece by piece
 refused_pieces : (side : List ℕ) (why : Data)
@@ -88,31 +101,43 @@ joined : (a b c d e : List ℕ) → (((a ++ b) ++ c) ++ d) ++ e ≡ a ++ (b ++ (
 joined a b c d e = simp append_assoc
 
 -- the text of the object that names a side
-pub side_text : (side : List ℕ) (Says : Data → Type 0) (first second third fourth text : List ℕ) → ((d : Data) → Says d → IsLowTree d) → AppendsData Says first second
-    → first ≡ codes "{\"faults\":" → third ≡ second ++ codes ",\"refused\":" → fourth ≡ third ++ compact_text (string side) → text ≡ fourth ++ codes "}" → IsUtf8 text
+pub side_text : (side : List ℕ) (Says : Data → Type 0) (first second third fourth text : List ℕ) → ((d : Data) → Says d → IsLowTree d)
+    → AppendsData Says first second
+    → first ≡ codes "{\"faults\":" → third ≡ second ++ codes ",\"refused\":" → fourth ≡ third ++ compact_text (string side) → text ≡ fourth
+    ++ codes "}" → IsUtf8 text
     → AnswersData (NamesSide side Says) text
 side_text side Says first second third fourth text known a begun named sided ended utf8 =
     let why = a.value in
     let low = known why a.says in
     let deep = low.1 in
     let pieces : text ≡ (((codes "{\"faults\":" ++ compact_text why) ++ codes ",\"refused\":") ++ compact_text (string side)) ++ codes "}" =
-    ended ∙ ap (λ t. t ++ codes "}") (sided ∙ ap (λ t. t ++ compact_text (string side)) (named ∙ ap (λ t. t ++ codes ",\"refused\":") (a.wrote ∙ ap (λ t. t ++ compact_text why) begun))) in
+    ended ∙ ap (λ t. t ++ codes "}")
+    (sided ∙ ap (λ t. t ++ compact_text (string side)) (named ∙ ap (λ t. t ++ codes ",\"refused\":") (a.wrote ∙ ap (λ t. t ++ compact_text why) begun))) in
     let is : text ≡ compact_text (refused_data side why) =
-    pieces ∙ joined (codes "{\"faults\":") (compact_text why) (codes ",\"refused\":") (compact_text (string side)) (codes "}") ∙ sym (refused_pieces side why) in
-    record { value = refused_data side why; says = (why, a.says, refl); is_text = data_text text (refused_data side why) utf8 is (refl, low.0, (tt, tt, tt)) (a.fits, (tt, tt)) (omega (arith, deep)) }
+    pieces ∙ joined (codes "{\"faults\":") (compact_text why) (codes ",\"refused\":") (compact_text (string side)) (codes "}")
+    ∙ sym (refused_pieces side why) in
+    record {
+      value = refused_data side why;
+      says = (why, a.says, refl);
+      is_text = data_text text (refused_data side why) utf8 is (refl, low.0, (tt, tt, tt)) (a.fits, (tt, tt)) (omega (arith, deep));
+    }
 
 -- what a value says of the side that is refused
-pub side_data : (Tells : Refusal → Data → Type 0) (IsWhy : List ℕ → Data → Type 0) (π : Preference) (left right : List ℕ) (s : Side) (value : Data) (Both : Type 0)
-    → ((bytes : List ℕ) (refused : Refusal) (why : Data) → RefusedAs π bytes refused → Tells refused why → IsWhy bytes why) → RefusedSide π left right s → TellsSideAs Tells s value
+pub side_data : (Tells : Refusal → Data → Type 0) (IsWhy : List ℕ → Data → Type 0) (π : Preference) (left right : List ℕ) (s : Side)
+    (value : Data) (Both : Type 0)
+    → ((bytes : List ℕ) (refused : Refusal) (why : Data) → RefusedAs π bytes refused → Tells refused why → IsWhy bytes why) → RefusedSide π left right s
+    → TellsSideAs Tells s value
     → NamesSide (codes "left") (IsWhy left) value ⊎ ((IsSomeReport π left × NamesSide (codes "right") (IsWhy right) value) ⊎ Both)
 side_data Tells IsWhy π left right s value Both follows is told =
-    of_side π left right (codes "left") (codes "right") s (λ name refused. NamesSide name (Tells refused) value) (λ name bytes. NamesSide name (IsWhy bytes) value) Both
+    of_side π left right (codes "left") (codes "right") s (λ name refused. NamesSide name (Tells refused) value)
+    (λ name bytes. NamesSide name (IsWhy bytes) value) Both
     (λ name bytes refused why named. (named.0, follows bytes refused named.0 why named.1, named.2)) is told
 
 -- ---- what the calls answer as data, from what the calls on bytes answer
 
 -- the value of a refusal says why the bytes are refused
-pub refusal_data : (π : Preference) (bytes : List ℕ) (outcome : Outcome) (refused : Refusal) (why : Data) → RefusedAs π bytes refused → TellsRefusalAs outcome refused why
+pub refusal_data : (π : Preference) (bytes : List ℕ) (outcome : Outcome) (refused : Refusal) (why : Data) → RefusedAs π bytes refused
+    → TellsRefusalAs outcome refused why
     → IsRefusalData π bytes outcome why
 refusal_data π bytes Bad (refusal.Faults faults) why (is, none) tells = (faults, is, tells)
 refusal_data π bytes NotJson refusal.NotJson why not tells = (not, tells)
@@ -123,12 +148,15 @@ check_data π bytes Good why is = absurd is
 check_data π bytes outcome why is = is
 
 -- the answer of a check if the bytes are refused
-pub refused_check : (π : Preference) (bytes : List ℕ) (refused : Refusal) (outcome : Outcome) (text : List ℕ) → RefusedAs π bytes refused → AnswersData (TellsRefusalAs outcome refused) text
+pub refused_check : (π : Preference) (bytes : List ℕ) (refused : Refusal) (outcome : Outcome) (text : List ℕ) → RefusedAs π bytes refused
+    → AnswersData (TellsRefusalAs outcome refused) text
     → IsCheckedData π bytes outcome text
 refused_check π bytes refused outcome text is a =
     record { value = a.value; checked = check_data π bytes outcome a.value (refusal_data π bytes outcome refused a.value is a.says); is_text = a.is_text }
 
 -- the answer of a comparison of two accepted reports
-pub both_compared : (π : Preference) (left right text : List ℕ) (outcome : Outcome) (found : Option Difference) → IsComparison π left right found → outcome ≡ comparison_outcome found
+pub both_compared : (π : Preference) (left right text : List ℕ) (outcome : Outcome) (found : Option Difference) → IsComparison π left right found
+    → outcome ≡ comparison_outcome found
     → IsDataText text (comparison_data found) → IsComparedData π left right outcome text
-both_compared π left right text outcome found is ends written = record { value = comparison_data found; compared = inr (inr (found, is, ends, refl)); is_text = written }
+both_compared π left right text outcome found is ends written =
+    record { value = comparison_data found; compared = inr (inr (found, is, ends, refl)); is_text = written }

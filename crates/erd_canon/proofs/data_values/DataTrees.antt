@@ -1,5 +1,7 @@
 -- The values that calls answer as data are trees, nest little, and have no number that is not whole.
-use Rattle.erd_canon.proofs.Common.{◌≡◌, ◌≤◌, false, List, [], ◌∷◌, map, Some, None, Option, sym, refl, subst, arith, Data, depth, items_depth, items_of, has_float, items_have_float, Reason, reason, IsTree, AreTrees, Fault, Difference, step_data, fault_data, faults_data, TellsRefusalAs, Refusal, refusal, Outcome, Bad, NotJson}
+use Rattle.erd_canon.proofs.Common.{◌≡◌, ◌≤◌, false, List, [], ◌∷◌, map, Some, None, Option, sym, refl, subst, arith, Data, depth, items_depth, items_of}
+use Rattle.erd_canon.proofs.Common.{has_float, items_have_float, Reason, reason, IsTree, AreTrees, Fault, Difference, step_data, fault_data, faults_data}
+use Rattle.erd_canon.proofs.Common.{TellsRefusalAs, Refusal, refusal, Outcome, Bad, NotJson}
 use Rattle.erd_tables.specs.declared.place.Step.{Step}
 use Rattle.erd_tables.specs.declared.place.Step.TheVariants.{Name, At}
 use Rattle.erd_meaning.specs.declared.keys.key.Key.{Key}

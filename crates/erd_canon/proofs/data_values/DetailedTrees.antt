@@ -1,5 +1,7 @@
 -- The value of a difference with what differs inside the selections is a tree, nests little, and has only numbers that fit.
-use Rattle.erd_canon.proofs.Common.{◌≡◌, ℕ, ◌+◌, ◌^◌, ◌≤◌, Bool, true, false, List, [], ◌∷◌, map, Option, Some, None, pos, negsuc, refl, arith, nat_lt, codes, Data, null, number, string, unsigned, negative, array, object, no_members, member, depth, items_depth, has_float, items_have_float, IsTree, AreTrees, HasFittingNumbers, ItemsHaveFittingNumbers, items_of}
+use Rattle.erd_canon.proofs.Common.{◌≡◌, ℕ, ◌+◌, ◌^◌, ◌≤◌, Bool, true, false, List, [], ◌∷◌, map, Option, Some, None, pos, negsuc, refl, arith, nat_lt, codes}
+use Rattle.erd_canon.proofs.Common.{Data, null, number, string, unsigned, negative, array, object, no_members, member, depth, items_depth, has_float}
+use Rattle.erd_canon.proofs.Common.{items_have_float, IsTree, AreTrees, HasFittingNumbers, ItemsHaveFittingNumbers, items_of}
 use Rattle.std.specs.Prelude.{ℤ, if◌then◌else◌, option_map}
 use Rattle.std.proofs.lemmas.Bool.{ltb-true}
 use Rattle.erd_meaning.specs.NameParts.{NameParts}
@@ -76,12 +78,14 @@ name_low n =
     (one_low 2 _ _ (array_low 1 2 (map key_as_json n.keys) refl (keys_low n.keys))
     (one_low 2 _ _ (record { tree = tt; fits = tt; low = omega arith; whole = refl })
     (one_low 2 _ _ (weaker 0 2 (order_data n.order) (omega arith) (order_low n.order))
-    (one_low 2 _ _ (weaker 0 2 (label_data n.label) (omega arith) (label_low n.label)) (one_low 2 _ _ (weaker 1 2 (key_data n.identifier) (omega arith) (key_low n.identifier)) (none_low 2)))))))
+    (one_low 2 _ _ (weaker 0 2 (label_data n.label) (omega arith) (label_low n.label))
+    (one_low 2 _ _ (weaker 1 2 (key_data n.identifier) (omega arith) (key_low n.identifier)) (none_low 2)))))))
 
 -- ---- a difference of selections
 
 unnamed : (how : List ℕ) (name : Data) → IsLow 3 name → IsLow 4 (object (member (codes "how") (string how) (member (codes "name") name no_members)))
-unnamed how name it = let low = it.low in record { tree = (refl, tt, (tt, it.tree, tt)); fits = (tt, (it.fits, tt)); low = omega (arith, low); whole = rw it.whole refl }
+unnamed how name it = let low = it.low in
+    record { tree = (refl, tt, (tt, it.tree, tt)); fits = (tt, (it.fits, tt)); low = omega (arith, low); whole = rw it.whole refl }
 
 selection_at : (n : NameParts) (h : How) → IsLow 4 (selection_data (record { name = n; how = h }))
 selection_at n (Member name) =
@@ -101,11 +105,15 @@ selections_low ds = array_low 4 5 (map selection_data ds) refl (each_low ds)
 
 -- ---- a difference
 
-plain : (how part : List ℕ) (k : Option Key) → IsLow 6 (object (member (codes "how") (string how) (member (codes "key") (key_data k) (member (codes "part") (string part) no_members))))
-plain how part k = let it = key_low k in let low = it.low in record { tree = (refl, tt, (refl, it.tree, (tt, tt, tt))); fits = (tt, (it.fits, (tt, tt))); low = omega (arith, low); whole = rw it.whole refl }
+plain : (how part : List ℕ) (k : Option Key)
+    → IsLow 6 (object (member (codes "how") (string how) (member (codes "key") (key_data k) (member (codes "part") (string part) no_members))))
+plain how part k = let it = key_low k in let low = it.low in
+    record { tree = (refl, tt, (refl, it.tree, (tt, tt, tt))); fits = (tt, (it.fits, (tt, tt))); low = omega (arith, low); whole = rw it.whole refl }
 
 told : (how part : List ℕ) (k : Option Key) (ds : List SelectionDifference)
-    → IsLow 6 (object (member (codes "how") (string how) (member (codes "key") (key_data k) (member (codes "part") (string part) (member (codes "selections") (selections_data ds) no_members)))))
+    → IsLow 6
+    (object (member (codes "how") (string how)
+    (member (codes "key") (key_data k) (member (codes "part") (string part) (member (codes "selections") (selections_data ds) no_members)))))
 told how part k ds =
     let it = key_low k in
     let in_key = it.low in
@@ -118,11 +126,17 @@ told how part k ds =
       whole = rw (it.whole, list.whole) refl;
     }
 
-detailed_at : (p : Part) (k : Option Key) (h : How) (o : Option (List SelectionDifference)) → IsLow 6 (object (difference_members (record { part = p; key = k; how = h }) (selections_member o)))
+detailed_at : (p : Part) (k : Option Key) (h : How) (o : Option (List SelectionDifference))
+    → IsLow 6 (object (difference_members (record { part = p; key = k; how = h }) (selections_member o)))
 detailed_at p k (Member name) None =
     let it = key_low k in
     let low = it.low in
-    record { tree = (refl, tt, (refl, it.tree, (refl, tt, (tt, tt, tt)))); fits = (tt, (it.fits, (tt, (tt, tt)))); low = omega (arith, low); whole = rw it.whole refl }
+    record {
+      tree = (refl, tt, (refl, it.tree, (refl, tt, (tt, tt, tt))));
+      fits = (tt, (it.fits, (tt, (tt, tt))));
+      low = omega (arith, low);
+      whole = rw it.whole refl;
+    }
 detailed_at p k (Member name) (Some ds) =
     let it = key_low k in
     let in_key = it.low in

@@ -1,5 +1,6 @@
 -- A list has one front, and one piece: what the definitions say leaves no choice.
-use Rattle.erd_canon.proofs.Common.{◌≡◌, ◌≢◌, refl, ℕ, zero, suc, ◌+◌, ◌<◌, ◌≤◌, ◌⊎◌, List, [], ◌++◌, map, length, take, drop, sym, ap, ◌∙◌, subst, inl, inr, arith, length-append}
+use Rattle.erd_canon.proofs.Common.{◌≡◌, ◌≢◌, refl, ℕ, zero, suc, ◌+◌, ◌<◌, ◌≤◌, ◌⊎◌, List, [], ◌++◌, map, length, take, drop, sym, ap, ◌∙◌, subst, inl, inr}
+use Rattle.erd_canon.proofs.Common.{arith, length-append}
 use Rattle.std.proofs.Common.{sum}
 use Rattle.std.proofs.Math.Seq.{take-append_seam}
 use Rattle.std.proofs.lemmas.List.{take-append-le}
@@ -8,11 +9,13 @@ use Rattle.erd_canon.specs.declared.data.piece.Piece.{Piece}
 use Rattle.erd_canon.specs.declared.data.piece.Told.{Told}
 
 -- a front ends where `full` says, so none of two is the shorter one
-no_shorter : {A : Type 0} (size : A → ℕ) (most enough : ℕ) (entries a b : List A) → IsFront size most enough entries a → IsFront size most enough entries b → length a < length b → ⊥
+no_shorter : {A : Type 0} (size : A → ℕ) (most enough : ℕ) (entries a b : List A) → IsFront size most enough entries a → IsFront size most enough entries b
+    → length a < length b → ⊥
 no_shorter {A} size most enough entries a b one other less = ends (one.full some)
   where
     front_of : take (length a) b ≡ a
-    front_of = sym (take-append-le (length a) b other.rest (omega (arith, less))) ∙ ap (take (length a)) (sym other.split ∙ one.split) ∙ take-append_seam a one.rest
+    front_of = sym (take-append-le (length a) b other.rest (omega (arith, less))) ∙ ap (take (length a)) (sym other.split ∙ one.split)
+        ∙ take-append_seam a one.rest
 
     some : one.rest ≢ []
     some none =
@@ -27,11 +30,14 @@ no_shorter {A} size most enough entries a b one other less = ends (one.full some
         omega (arith, much, low)
 
 -- two fronts of one list are equal
-pub one_front : {A : Type 0} (size : A → ℕ) (most enough : ℕ) (entries a b : List A) → IsFront size most enough entries a → IsFront size most enough entries b → a ≡ b
-one_front {A} size most enough entries a b one other = at (length a) (length b) (λ less. no_shorter size most enough entries a b one other less) (λ less. no_shorter size most enough entries b a other one less) same
+pub one_front : {A : Type 0} (size : A → ℕ) (most enough : ℕ) (entries a b : List A) → IsFront size most enough entries a
+    → IsFront size most enough entries b → a ≡ b
+one_front {A} size most enough entries a b one other = at (length a) (length b) (λ less. no_shorter size most enough entries a b one other less)
+    (λ less. no_shorter size most enough entries b a other one less) same
   where
     same : length a ≡ length b → a ≡ b
-    same long = sym (take-append_seam a one.rest) ∙ ap (λ xs. take (length a) xs) (sym one.split ∙ other.split) ∙ ap (λ n. take n (b ++ other.rest)) long ∙ take-append_seam b other.rest
+    same long = sym (take-append_seam a one.rest) ∙ ap (λ xs. take (length a) xs) (sym one.split ∙ other.split) ∙ ap (λ n. take n (b ++ other.rest)) long
+        ∙ take-append_seam b other.rest
 
     at : (m n : ℕ) → ((m < n) → ⊥) → ((n < m) → ⊥) → (m ≡ n → a ≡ b) → a ≡ b
     at zero zero above below is = is refl
@@ -40,7 +46,8 @@ one_front {A} size most enough entries a b one other = at (length a) (length b) 
     at (suc m) (suc n) above below is = at m n (λ less. above (omega (arith, less))) (λ less. below (omega (arith, less))) (λ same. is (ap suc same))
 
 -- two pieces of one list are equal, and so is what is told of them
-pub one_piece : {A : Type 0} (size : A → ℕ) (piece : Piece) (entries a b : List A) (told other : Told) → IsPiece size piece entries a told → IsPiece size piece entries b other
+pub one_piece : {A : Type 0} (size : A → ℕ) (piece : Piece) (entries a b : List A) (told other : Told) → IsPiece size piece entries a told
+    → IsPiece size piece entries b other
     → (a ≡ b) × (told.count ≡ other.count) × (told.all ≡ other.all)
 one_piece size piece entries a b told other first second =
     let same = one_front size piece.most piece.enough_bytes (drop piece.first entries) a b first.front second.front in

@@ -1,5 +1,7 @@
 -- The front of a list that a piece shows: what it is, and how a walk along the list reaches it entry by entry.
-use Rattle.erd_canon.proofs.Common.{◌≡◌, ℕ, zero, suc, ◌+◌, ◌-◌, ◌<◌, ◌≤◌, Bool, true, false, ◌⊎◌, List, [], ◌∷◌, ◌++◌, map, length, take, drop, nat_lt, sym, refl, ap, ◌∙◌, subst, inl, inr, append_assoc, append-nil, arith, lt-ltb, fold, Data, array, items_of, comma_if, compact_text, items_text, HasFittingNumbers, ItemsHaveFittingNumbers, AppendsData}
+use Rattle.erd_canon.proofs.Common.{◌≡◌, ℕ, zero, suc, ◌+◌, ◌-◌, ◌<◌, ◌≤◌, Bool, true, false, ◌⊎◌, List, [], ◌∷◌, ◌++◌, map, length, take, drop, nat_lt, sym}
+use Rattle.erd_canon.proofs.Common.{refl, ap, ◌∙◌, subst, inl, inr, append_assoc, append-nil, arith, lt-ltb, fold, Data, array, items_of, comma_if}
+use Rattle.erd_canon.proofs.Common.{compact_text, items_text, HasFittingNumbers, ItemsHaveFittingNumbers, AppendsData}
 use Rattle.std.proofs.Common.{sum, le-ltb}
 use Rattle.erd_canon.specs.Pieces.{IsFront, IsPieceData}
 use Rattle.erd_canon.specs.code.Fronts.{AllHave, AppendsEntries, IsReached, ahead, front, joined_text}
@@ -19,7 +21,8 @@ sum_cons : (n : ℕ) (ns : List ℕ) → sum (n ∷ ns) ≡ n + sum ns
 sum_cons n ns = let from = fold_from (0 + n) ns in omega (arith, from)
 
 -- one more entry in front
-cons_is : {A : Type 0} (size : A → ℕ) (most enough : ℕ) (x : A) (xs shown : List A) → IsFront size most (suc enough - size x) xs shown → IsFront size (suc most) (suc enough) (x ∷ xs) (x ∷ shown)
+cons_is : {A : Type 0} (size : A → ℕ) (most enough : ℕ) (x : A) (xs shown : List A) → IsFront size most (suc enough - size x) xs shown
+    → IsFront size (suc most) (suc enough) (x ∷ xs) (x ∷ shown)
 cons_is size most enough x xs shown later = record {
   rest = later.rest;
   split = ap (λ ys. x ∷ ys) later.split;
@@ -36,14 +39,18 @@ cons_is size most enough x xs shown later = record {
 
     full : (length shown ≡ most) ⊎ (suc enough - size x ≤ sum (map size shown)) → (length (x ∷ shown) ≡ suc most) ⊎ (suc enough ≤ sum (map size (x ∷ shown)))
     full (inl all) = inl (ap suc all)
-    full (inr much) = let whole : sum (map size (x ∷ shown)) ≡ size x + sum (map size shown) = sum_cons (size x) (map size shown) in inr (omega (arith, much, whole))
+    full (inr much) = let whole : sum (map size (x ∷ shown)) ≡ size x + sum (map size shown) = sum_cons (size x) (map size shown) in
+        inr (omega (arith, much, whole))
 
 pub front_is : {A : Type 0} (size : A → ℕ) (most enough : ℕ) (xs : List A) → IsFront size most enough xs (front size most enough xs)
-front_is size most enough [] = record { rest = []; split = refl; few = omega arith; begun = λ k less. absurd (omega (arith, less)); full = λ some. absurd (some refl) }
-front_is size zero enough (x ∷ xs) = record { rest = x ∷ xs; split = refl; few = omega arith; begun = λ k less. absurd (omega (arith, less)); full = λ some. inl refl }
+front_is size most enough [] =
+    record { rest = []; split = refl; few = omega arith; begun = λ k less. absurd (omega (arith, less)); full = λ some. absurd (some refl) }
+front_is size zero enough (x ∷ xs) =
+    record { rest = x ∷ xs; split = refl; few = omega arith; begun = λ k less. absurd (omega (arith, less)); full = λ some. inl refl }
 front_is size (suc most) zero (x ∷ xs) =
     record { rest = x ∷ xs; split = refl; few = omega arith; begun = λ k less. absurd (omega (arith, less)); full = λ some. inr (omega arith) }
-front_is size (suc most) (suc enough) (x ∷ xs) = cons_is size most enough x xs (front size most (suc enough - size x) xs) (front_is size most (suc enough - size x) xs)
+front_is size (suc most) (suc enough) (x ∷ xs) = cons_is size most enough x xs (front size most (suc enough - size x) xs)
+    (front_is size most (suc enough - size x) xs)
 
 no_more : {A : Type 0} (size : A → ℕ) (enough : ℕ) (xs : List A) → front size 0 enough xs ≡ []
 no_more size enough [] = refl
@@ -70,7 +77,8 @@ begun size text_of Has piece entries before = record {
 }
 
 -- an entry behind those that the piece shows
-pub stopped : {A : Type 0} (size : A → ℕ) (text_of : Bool → A → List ℕ) (Has : A → Type 0) (piece : Piece) (entries : List A) (before text : List ℕ) (left : Piece) (x : A) (rest : List A)
+pub stopped : {A : Type 0} (size : A → ℕ) (text_of : Bool → A → List ℕ) (Has : A → Type 0) (piece : Piece) (entries : List A) (before text : List ℕ)
+    (left : Piece) (x : A) (rest : List A)
     → left.first ≡ 0 → (left.most ≡ 0) ⊎ (left.enough_bytes ≡ 0) → IsReached size text_of Has piece entries before text left (x ∷ rest)
     → IsReached size text_of Has piece entries before text left rest
 stopped {A} size text_of Has piece entries before text left x rest none why is = record {
@@ -88,8 +96,10 @@ stopped {A} size text_of Has piece entries before text left x rest none why is =
     same = nothing (drop left.first rest) why ∙ sym (nothing (drop left.first (x ∷ rest)) why)
 
 -- an entry that the piece shows
-pub taken : {A : Type 0} (size : A → ℕ) (text_of : Bool → A → List ℕ) (Has : A → Type 0) (piece : Piece) (entries : List A) (before text : List ℕ) (left : Piece) (x : A) (rest : List A) (later : List ℕ)
-    (enough : ℕ) → left.first ≡ 0 → 0 < left.most → 0 < left.enough_bytes → enough ≡ left.enough_bytes - size x → later ≡ text ++ text_of (nat_lt left.most piece.most) x → Has x
+pub taken : {A : Type 0} (size : A → ℕ) (text_of : Bool → A → List ℕ) (Has : A → Type 0) (piece : Piece) (entries : List A) (before text : List ℕ)
+    (left : Piece) (x : A) (rest : List A) (later : List ℕ)
+    (enough : ℕ) → left.first ≡ 0 → 0 < left.most → 0 < left.enough_bytes → enough ≡ left.enough_bytes - size x
+    → later ≡ text ++ text_of (nat_lt left.most piece.most) x → Has x
     → IsReached size text_of Has piece entries before text left (x ∷ rest)
     → IsReached size text_of Has piece entries before later (record { first = left.first; most = left.most - 1; enough_bytes = enough }) rest
 taken {A} size text_of Has piece entries before text left x rest later enough none some room less wrote has is =
@@ -98,7 +108,8 @@ taken {A} size text_of Has piece entries before text left x rest later enough no
     let longer = ap length key in
     record {
       low = omega (arith, low);
-      written = ap (λ b. later ++ joined_text text_of b shown) (lt-ltb (left.most - 1) piece.most (omega (arith, low, some))) ∙ ap (λ t. t ++ joined_text text_of true shown) wrote
+      written = ap (λ b. later ++ joined_text text_of b shown) (lt-ltb (left.most - 1) piece.most (omega (arith, low, some)))
+          ∙ ap (λ t. t ++ joined_text text_of true shown) wrote
           ∙ append_assoc text (text_of (nat_lt left.most piece.most) x) (joined_text text_of true shown)
           ∙ ap (λ ys. text ++ joined_text text_of (nat_lt left.most piece.most) ys) (sym key) ∙ is.written;
       count = omega (arith, low, some, count, longer);
@@ -130,14 +141,16 @@ drop_nil zero xs none = none_of xs none
 drop_nil (suc n) [] none = refl
 drop_nil (suc n) (x ∷ xs) none = absurd (omega (arith, none))
 
-pub ended : {A : Type 0} (size : A → ℕ) (text_of : Bool → A → List ℕ) (Has : A → Type 0) (piece : Piece) (entries : List A) (before text : List ℕ) (left : Piece)
+pub ended : {A : Type 0} (size : A → ℕ) (text_of : Bool → A → List ℕ) (Has : A → Type 0) (piece : Piece) (entries : List A)
+    (before text : List ℕ) (left : Piece)
     → IsReached size text_of Has piece entries before text left []
     → AppendsEntries size text_of Has piece entries (record { count = piece.most - left.most; all = length entries }) before text
 ended size text_of Has piece entries before text left is = record {
   shown = ahead size piece entries;
   is_piece = record { front = front_is size piece.most piece.enough_bytes (drop piece.first entries); count = counted; all = refl };
   fits = is.fits (subst (AllHave Has) (sym none) tt);
-  wrote = sym (append-nil text) ∙ subst (λ ys. text ++ joined_text text_of (nat_lt left.most piece.most) ys ≡ before ++ joined_text text_of false (ahead size piece entries)) none is.written;
+  wrote = sym (append-nil text) ∙ subst (λ ys. text ++ joined_text text_of (nat_lt left.most piece.most) ys ≡ before ++ joined_text text_of false
+      (ahead size piece entries)) none is.written;
 }
   where
     none : ahead size left [] ≡ []
@@ -156,19 +169,23 @@ joined_items value_of later (x ∷ xs) =
     append_assoc (comma_if later ++ compact_text (value_of x)) rest (93 ∷ []) ∙ append_assoc (comma_if later) (compact_text (value_of x)) (rest ++ 93 ∷ [])
     ∙ ap (λ t. comma_if later ++ (compact_text (value_of x) ++ t)) (joined_items value_of true xs)
 
-items_fit : {A : Type 0} (value_of : A → Data) (xs : List A) → AllHave (λ x. HasFittingNumbers (value_of x)) xs → ItemsHaveFittingNumbers (items_of (map value_of xs))
+items_fit : {A : Type 0} (value_of : A → Data) (xs : List A) → AllHave (λ x. HasFittingNumbers (value_of x)) xs
+    → ItemsHaveFittingNumbers (items_of (map value_of xs))
 items_fit value_of [] fit = tt
 items_fit value_of (x ∷ xs) fit = (fit.0, items_fit value_of xs fit.1)
 
 -- the entries of a piece between brackets
-pub in_brackets : {A : Type 0} (value_of : A → Data) (piece : Piece) (entries : List A) (told : Told) (before first second after : List ℕ) → first ≡ before ++ 91 ∷ []
-    → AppendsEntries (λ x. length (compact_text (value_of x))) (λ later x. comma_if later ++ compact_text (value_of x)) (λ x. HasFittingNumbers (value_of x)) piece entries told first second
+pub in_brackets : {A : Type 0} (value_of : A → Data) (piece : Piece) (entries : List A) (told : Told) (before first second after : List ℕ)
+    → first ≡ before ++ 91 ∷ []
+    → AppendsEntries (λ x. length (compact_text (value_of x))) (λ later x. comma_if later ++ compact_text (value_of x)) (λ x. HasFittingNumbers (value_of x))
+    piece entries told first second
     → after ≡ second ++ 93 ∷ [] → AppendsData (IsPieceData value_of piece entries told) before after
 in_brackets value_of piece entries told before first second after opened a closed = record {
   value = array (items_of (map value_of a.shown));
   says = record { shown = a.shown; is_piece = a.is_piece; is_array = refl };
   fits = items_fit value_of a.shown a.fits;
-  wrote = closed ∙ ap (λ t. t ++ 93 ∷ []) (a.wrote ∙ ap (λ t. t ++ entries_text) opened) ∙ append_assoc (before ++ 91 ∷ []) entries_text (93 ∷ []) ∙ append_assoc before (91 ∷ []) (entries_text ++ 93 ∷ [])
+  wrote = closed ∙ ap (λ t. t ++ 93 ∷ []) (a.wrote ∙ ap (λ t. t ++ entries_text) opened) ∙ append_assoc (before ++ 91 ∷ []) entries_text (93 ∷ [])
+      ∙ append_assoc before (91 ∷ []) (entries_text ++ 93 ∷ [])
       ∙ ap (λ t. before ++ 91 ∷ t) (joined_items value_of false a.shown);
 }
   where

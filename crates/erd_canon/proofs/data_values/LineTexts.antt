@@ -1,11 +1,14 @@
 -- The object of a request nests little, and what words are answered with.
-use Rattle.erd_canon.proofs.Common.{◌≡◌, ℕ, ◌≤◌, Bool, true, false, ◌||◌, List, Some, None, Option, Result, sym, refl, ap, ap₂, subst, arith, depth, has_float, IsLineRead}
+use Rattle.erd_canon.proofs.Common.{◌≡◌, ℕ, ◌≤◌, Bool, true, false, ◌||◌, List, Some, None, Option, Result, sym, refl, ap, ap₂, subst, arith, depth, has_float}
+use Rattle.erd_canon.proofs.Common.{IsLineRead}
 use Rattle.erd_canon.specs.LineAnswers.{IsAnswerTo, IsLineData, preparation_data, request_data}
 use Rattle.erd_canon.specs.Options.{option_data}
 use Rattle.erd_canon.specs.ReadLines.{IsReadExactly}
 use Rattle.erd_canon.specs.declared.commands.request.LineFault.{LineFault}
 use Rattle.erd_canon.specs.declared.commands.request.Request.{Request}
-use Rattle.erd_canon.specs.declared.commands.request.Request.TheVariants.{Filter, Check, Canon, Compare, CheckData, CompareData, Differences, DifferencesData, Prepare, PrepareList, PrepareReport, Ballots, BallotsData, BallotDifferences, BallotDifferencesData}
+use Rattle.erd_canon.specs.declared.commands.request.Request.TheVariants.{Filter, Check, Canon, Compare, CheckData, CompareData, Differences, DifferencesData}
+use Rattle.erd_canon.specs.declared.commands.request.Request.TheVariants.{Prepare, PrepareList, PrepareReport, Ballots, BallotsData, BallotDifferences}
+use Rattle.erd_canon.specs.declared.commands.request.Request.TheVariants.{BallotDifferencesData}
 
 -- an option does not nest, and has no number
 option_flat : (text : Option (List ℕ)) → (depth (option_data text) ≤ 0) × (has_float (option_data text) ≡ false)
@@ -17,7 +20,8 @@ last_has_float : (prefer : Option (List ℕ)) → (has_float (option_data prefer
 last_has_float prefer = ap (λ (b : Bool). b || false) (option_flat prefer).1
 
 -- a preparation nests little, and has no number
-preparation_value : (list report : Bool) (file : List ℕ) (steps prefer : Option (List ℕ)) → (depth (preparation_data list report file steps prefer) ≤ 2) × (has_float (preparation_data list report file steps prefer) ≡ false)
+preparation_value : (list report : Bool) (file : List ℕ) (steps prefer : Option (List ℕ)) → (depth (preparation_data list report file steps prefer) ≤ 2)
+    × (has_float (preparation_data list report file steps prefer) ≡ false)
 preparation_value list report file steps prefer = (
   omega (arith, (option_flat prefer).0, (option_flat steps).0),
   ap₂ (λ (b : Bool) (d : Bool). b || d) (option_flat prefer).1 (last_has_float steps),
@@ -42,7 +46,8 @@ request_value (BallotDifferences left right prefer) = (omega (arith, (option_fla
 request_value (BallotDifferencesData left right prefer) = (omega (arith, (option_flat prefer).0), last_has_float prefer)
 
 -- the answer to what was read from the words
-pub line_data : (words : List (List ℕ)) (found line : Result Request LineFault) (status : Option ℕ) (text : List ℕ) → found ≡ line → IsReadExactly words found → IsLineRead words found
+pub line_data : (words : List (List ℕ)) (found line : Result Request LineFault) (status : Option ℕ) (text : List ℕ) → found ≡ line → IsReadExactly words found
+    → IsLineRead words found
     → IsAnswerTo line status text → IsLineData words status text
 line_data words found line status text is exact was_read answer = record {
   found = found;

@@ -1,5 +1,7 @@
 -- The answers as data on worked rows, by computation.
-use Rattle.erd_canon.proofs.Common.{◌≡◌, ℕ, List, [], ◌∷◌, Some, None, codes, refl, inl, inr, digits, serde_json_on_literals, Data, string, read, compact_text, Fault, reason, IsAcceptedReport, faults_data, refused_data, comparison_data, text_of_lines, Bad, Good, NotJson}
+use Rattle.erd_canon.proofs.Common.{◌≡◌, ℕ, List, [], ◌∷◌, ◌++◌, Some, None, codes, refl, inl, inr, digits, serde_json_on_literals, Data, string, read}
+use Rattle.erd_canon.proofs.Common.{compact_text, Fault, reason, IsAcceptedReport, faults_data, refused_data, comparison_data, text_of_lines}
+use Rattle.erd_canon.proofs.Common.{Bad, Good, NotJson}
 use Rattle.erd_tables.specs.declared.place.Step.TheVariants.{Name, At}
 use Rattle.erd_canon.specs.Answering.{IsCheckLine, listing_lines}
 use Rattle.erd_canon.specs.DataAnswers.{IsCheckedData, IsComparedData, IsDataText}
@@ -14,7 +16,8 @@ three_faults = record { place = Name (codes "Election") ∷ At 0 ∷ Name (codes
     ∷ record { place = Name (codes "a/b\"\n: accepted") ∷ []; reason = reason.NotWhole } ∷ []
 
 fault_texts : compact_text (faults_data three_faults)
-    ≡ codes "[{\"place\":[\"Election\",0,\"Contest\",12],\"reason\":15},{\"name\":\"Status\",\"place\":[],\"reason\":2},{\"place\":[\"a/b\\\"\\n: accepted\"],\"reason\":4}]"
+    ≡ codes "[{\"place\":[\"Election\",0,\"Contest\",12],\"reason\":15},{\"name\":\"Status\",\"place\":[],\"reason\":2}"
+    ++ codes ",{\"place\":[\"a/b\\\"\\n: accepted\"],\"reason\":4}]"
 unfolding serde_json_on_literals digits
 fault_texts = refl
 
@@ -69,7 +72,8 @@ null_compared right = record {
 }
 
 -- the right report is judged where the left one is accepted
-bytes_compared : (left : List ℕ) (t : Data) → IsAcceptedReport None left t → IsComparedData None left [] NotJson (codes "{\"faults\":\"not JSON\",\"refused\":\"right\"}")
+bytes_compared : (left : List ℕ) (t : Data) → IsAcceptedReport None left t → IsComparedData None left [] NotJson
+    (codes "{\"faults\":\"not JSON\",\"refused\":\"right\"}")
 unfolding serde_json_on_literals
 bytes_compared left t accepted = record {
   value = refused_data (codes "right") (string (codes "not JSON"));

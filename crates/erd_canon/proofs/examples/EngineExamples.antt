@@ -1,5 +1,7 @@
 -- What the engines write for bytes that are no JSON, and for the JSON `null`, which has one fault.
-use Rattle.erd_canon.proofs.Common.{◌≡◌, ℕ, zero, suc, List, [], ◌∷◌, None, codes, Contains, refl, subst, inl, inr, arith, lit<, Data, null, Reason, reason, fault_cmp, Fault, IsFault, serde_json_on_literals, IsNotJson, IsAcceptedReport, IsRefusal, IsCheckText, IsCanonicalOutput, IsCanonicalErrors, IsCompareText, IsRefusedReport, IsCompared, Bad, Good, NotJson}
+use Rattle.erd_canon.proofs.Common.{◌≡◌, ℕ, zero, suc, List, [], ◌∷◌, None, codes, Contains, refl, subst, inl, inr, arith, lit<, Data, null, Reason, reason}
+use Rattle.erd_canon.proofs.Common.{fault_cmp, Fault, IsFault, serde_json_on_literals, IsNotJson, IsAcceptedReport, IsRefusal, IsCheckText, IsCanonicalOutput}
+use Rattle.erd_canon.proofs.Common.{IsCanonicalErrors, IsCompareText, IsRefusedReport, IsCompared, Bad, Good, NotJson}
 use Rattle.std.proofs.lemmas.Option.{none-some}
 use Rattle.std.specs.List.Sorted.{IsStrictlySortedBy}
 use Rattle.erd_tables.specs.declared.place.Step.{Step}

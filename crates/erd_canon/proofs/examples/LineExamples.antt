@@ -1,7 +1,10 @@
 -- The exact lines, and what `clap` makes of others, on examples.
-use Rattle.erd_canon.proofs.Common.{◌≡◌, ℕ, Bool, true, false, List, [], ◌∷◌, map, Option, Some, None, codes, refl, arith, clap_on_literals, subcommand_of, takes, Kinds, fault_of, DisplayHelp, MissingRequiredArgument, UnknownArgument, words_of, HasPlainWords, request_in, program}
+use Rattle.erd_canon.proofs.Common.{◌≡◌, ℕ, Bool, true, false, List, [], ◌∷◌, map, Option, Some, None, codes, refl, arith, clap_on_literals, subcommand_of}
+use Rattle.erd_canon.proofs.Common.{takes, Kinds, fault_of, DisplayHelp, MissingRequiredArgument, UnknownArgument, words_of, HasPlainWords, request_in, program}
 use Rattle.erd_canon.specs.declared.commands.request.Request.{Request}
-use Rattle.erd_canon.specs.declared.commands.request.Request.TheVariants.{Filter, Check, Canon, Compare, CheckData, CompareData, Differences, DifferencesData, Prepare, PrepareList, PrepareReport, Ballots, BallotsData, BallotDifferences, BallotDifferencesData}
+use Rattle.erd_canon.specs.declared.commands.request.Request.TheVariants.{Filter, Check, Canon, Compare, CheckData, CompareData, Differences, DifferencesData}
+use Rattle.erd_canon.specs.declared.commands.request.Request.TheVariants.{Prepare, PrepareList, PrepareReport, Ballots, BallotsData, BallotDifferences}
+use Rattle.erd_canon.specs.declared.commands.request.Request.TheVariants.{BallotDifferencesData}
 
 -- the rows of the program's table; a type stands between the subcommand and the first file
 words : map words_of (Filter ∷ Check (codes "a") None ∷ Canon (codes "a") None ∷ Compare (codes "a") (codes "b") None
@@ -19,7 +22,8 @@ words_for_json : map words_of (CheckData (codes "a") None ∷ CompareData (codes
 words_for_json = refl
 
 -- ballots of one file and of two, with the same options
-words_for_ballots : map words_of (Ballots (codes "a") None ∷ BallotsData (codes "a") (Some (codes "fips")) ∷ BallotDifferences (codes "a") (codes "b") (Some (codes "fips"))
+words_for_ballots : map words_of (Ballots (codes "a") None ∷ BallotsData (codes "a") (Some (codes "fips")) ∷ BallotDifferences (codes "a")
+    (codes "b") (Some (codes "fips"))
     ∷ BallotDifferencesData (codes "a") (codes "b") None ∷ [])
     ≡ (codes "ballots" ∷ codes "a" ∷ []) ∷ (codes "ballots" ∷ codes "--json" ∷ codes "--prefer" ∷ codes "fips" ∷ codes "a" ∷ [])
     ∷ (codes "ballots" ∷ codes "--prefer" ∷ codes "fips" ∷ codes "a" ∷ codes "b" ∷ []) ∷ (codes "ballots" ∷ codes "--json" ∷ codes "a" ∷ codes "b" ∷ []) ∷ []
@@ -54,21 +58,24 @@ unfolding clap_on_literals
 other_words = refl
 
 -- no type, an empty one, a type where there is no subcommand, and two
-other_types : map is_line ((codes "check" ∷ codes "--prefer" ∷ codes "a" ∷ []) ∷ (codes "check" ∷ codes "a" ∷ codes "--prefer" ∷ []) ∷ (codes "canon" ∷ codes "--prefer" ∷ [] ∷ codes "a" ∷ [])
+other_types : map is_line ((codes "check" ∷ codes "--prefer" ∷ codes "a" ∷ []) ∷ (codes "check" ∷ codes "a" ∷ codes "--prefer" ∷ [])
+    ∷ (codes "canon" ∷ codes "--prefer" ∷ [] ∷ codes "a" ∷ [])
     ∷ (codes "--prefer" ∷ codes "fips" ∷ []) ∷ (codes "check" ∷ codes "--prefer" ∷ codes "b" ∷ codes "--prefer" ∷ codes "c" ∷ codes "a" ∷ []) ∷ [])
     ≡ false ∷ false ∷ false ∷ false ∷ false ∷ []
 unfolding clap_on_literals
 other_types = refl
 
 -- `--json` where there is no subcommand, after `canon`, twice, and with a value
-other_json : map is_line ((codes "--json" ∷ []) ∷ (codes "canon" ∷ codes "--json" ∷ codes "a" ∷ []) ∷ (codes "check" ∷ codes "--json" ∷ codes "--json" ∷ codes "a" ∷ [])
+other_json : map is_line ((codes "--json" ∷ []) ∷ (codes "canon" ∷ codes "--json" ∷ codes "a" ∷ [])
+    ∷ (codes "check" ∷ codes "--json" ∷ codes "--json" ∷ codes "a" ∷ [])
     ∷ (codes "check" ∷ codes "--json=true" ∷ codes "a" ∷ []) ∷ [])
     ≡ false ∷ false ∷ false ∷ false ∷ []
 unfolding clap_on_literals
 other_json = refl
 
 -- `--json` of a preparation, an option of one where it isn't known, no steps, too few names, and too many
-other_options : map is_line ((codes "prepare" ∷ codes "--json" ∷ codes "a" ∷ []) ∷ (codes "check" ∷ codes "--list" ∷ codes "a" ∷ []) ∷ (codes "ballots" ∷ codes "--steps" ∷ codes "b" ∷ codes "a" ∷ [])
+other_options : map is_line ((codes "prepare" ∷ codes "--json" ∷ codes "a" ∷ []) ∷ (codes "check" ∷ codes "--list" ∷ codes "a" ∷ [])
+    ∷ (codes "ballots" ∷ codes "--steps" ∷ codes "b" ∷ codes "a" ∷ [])
     ∷ (codes "prepare" ∷ codes "--steps" ∷ [] ∷ codes "a" ∷ []) ∷ (codes "prepare" ∷ codes "--list" ∷ []) ∷ (codes "prepare" ∷ codes "a" ∷ codes "b" ∷ [])
     ∷ (codes "ballots" ∷ []) ∷ (codes "ballots" ∷ codes "a" ∷ codes "b" ∷ codes "c" ∷ []) ∷ [])
     ≡ false ∷ false ∷ false ∷ false ∷ false ∷ false ∷ false ∷ false ∷ []
@@ -88,28 +95,34 @@ unfolding clap_on_literals
 type_joined_taken = refl
 
 -- the type after an equals sign, the option after a file, and a file whose name begins with a hyphen, after two hyphens
-read_so : map read_as ((codes "compare" ∷ codes "--prefer=fips" ∷ codes "a" ∷ codes "b" ∷ []) ∷ (codes "check" ∷ codes "a" ∷ codes "--prefer" ∷ codes "fips" ∷ [])
+read_so : map read_as ((codes "compare" ∷ codes "--prefer=fips" ∷ codes "a" ∷ codes "b" ∷ [])
+    ∷ (codes "check" ∷ codes "a" ∷ codes "--prefer" ∷ codes "fips" ∷ [])
     ∷ (codes "compare" ∷ codes "a" ∷ codes "--prefer=fips" ∷ codes "b" ∷ []) ∷ (codes "canon" ∷ codes "--" ∷ codes "-a" ∷ []) ∷ [])
-    ≡ Compare (codes "a") (codes "b") (Some (codes "fips")) ∷ Check (codes "a") (Some (codes "fips")) ∷ Compare (codes "a") (codes "b") (Some (codes "fips")) ∷ Canon (codes "-a") None ∷ []
+    ≡ Compare (codes "a") (codes "b") (Some (codes "fips")) ∷ Check (codes "a") (Some (codes "fips")) ∷ Compare (codes "a") (codes "b") (Some (codes "fips"))
+    ∷ Canon (codes "-a") None ∷ []
 unfolding clap_on_literals
 read_so = refl
 
 -- `--json` behind a type, and after a file
-json_read : map read_as ((codes "compare" ∷ codes "--prefer" ∷ codes "fips" ∷ codes "--json" ∷ codes "a" ∷ codes "b" ∷ []) ∷ (codes "check" ∷ codes "a" ∷ codes "--json" ∷ [])
+json_read : map read_as ((codes "compare" ∷ codes "--prefer" ∷ codes "fips" ∷ codes "--json" ∷ codes "a" ∷ codes "b" ∷ [])
+    ∷ (codes "check" ∷ codes "a" ∷ codes "--json" ∷ [])
     ∷ (codes "differences" ∷ codes "a" ∷ codes "--json" ∷ codes "b" ∷ []) ∷ [])
     ≡ CompareData (codes "a") (codes "b") (Some (codes "fips")) ∷ CheckData (codes "a") None ∷ DifferencesData (codes "a") (codes "b") None ∷ []
 unfolding clap_on_literals
 json_read = refl
 
 -- the list goes before the report, the steps and the type; options in another order, and a second file behind one
-steps_read : map read_as ((codes "prepare" ∷ codes "--report" ∷ codes "--list" ∷ codes "--steps" ∷ codes "b" ∷ codes "a" ∷ []) ∷ (codes "prepare" ∷ codes "--prefer" ∷ codes "fips" ∷ codes "--report" ∷ codes "a" ∷ [])
+steps_read : map read_as ((codes "prepare" ∷ codes "--report" ∷ codes "--list" ∷ codes "--steps" ∷ codes "b" ∷ codes "a" ∷ [])
+    ∷ (codes "prepare" ∷ codes "--prefer" ∷ codes "fips" ∷ codes "--report" ∷ codes "a" ∷ [])
     ∷ (codes "prepare" ∷ codes "a" ∷ codes "--prefer=fips" ∷ codes "--steps=b" ∷ []) ∷ (codes "ballots" ∷ codes "a" ∷ codes "--json" ∷ codes "b" ∷ []) ∷ [])
-    ≡ PrepareList (codes "a") ∷ PrepareReport (codes "a") None ∷ Prepare (codes "a") (Some (codes "b")) (Some (codes "fips")) ∷ BallotDifferencesData (codes "a") (codes "b") None ∷ []
+    ≡ PrepareList (codes "a") ∷ PrepareReport (codes "a") None ∷ Prepare (codes "a") (Some (codes "b")) (Some (codes "fips")) ∷ BallotDifferencesData
+    (codes "a") (codes "b") None ∷ []
 unfolding clap_on_literals
 steps_read = refl
 
 -- help, and words that are none of the program's
-faults : map faults_of ((codes "--help" ∷ []) ∷ (codes "check" ∷ codes "-h" ∷ []) ∷ (codes "check" ∷ []) ∷ (codes "check" ∷ codes "--nosuch" ∷ codes "a" ∷ []) ∷ [])
+faults : map faults_of ((codes "--help" ∷ []) ∷ (codes "check" ∷ codes "-h" ∷ []) ∷ (codes "check" ∷ [])
+    ∷ (codes "check" ∷ codes "--nosuch" ∷ codes "a" ∷ []) ∷ [])
     ≡ (DisplayHelp ∷ []) ∷ (DisplayHelp ∷ []) ∷ (MissingRequiredArgument ∷ []) ∷ (UnknownArgument ∷ []) ∷ []
 unfolding clap_on_literals
 faults = refl

@@ -1,5 +1,6 @@
 -- The report of one unit as bytes: it is accepted, these are its canonical bytes, and the engines write these texts.
-use Rattle.erd_canon.proofs.Common.{[], None, codes, sym, refl, inl, inr, digits, serde_json_on_literals, IsTreeOf, IsAcceptedReport, IsCanonicalBytes, IsCheckText, IsCanonicalOutput, IsCanonicalErrors, IsCompareText, IsComparison}
+use Rattle.erd_canon.proofs.Common.{[], None, codes, sym, refl, inl, inr, digits, serde_json_on_literals, IsTreeOf, IsAcceptedReport, IsCanonicalBytes}
+use Rattle.erd_canon.proofs.Common.{IsCheckText, IsCanonicalOutput, IsCanonicalErrors, IsCompareText, IsComparison}
 use Rattle.erd_check.proofs.Reports.{one_unit, tree_of}
 use Rattle.erd_meaning.proofs.examples.RefusedExamples.{one_unit_is_accepted}
 use Rattle.erd_normal.proofs.examples.CanonicalReports.{form_of_one_unit, one_unit_canonical}
@@ -34,7 +35,14 @@ own_form : IsCanonicalBytes None one_unit_canonical one_unit_canonical
 unfolding serde_json_on_literals digits
 own_form =
     let form = tree_of one_unit_canonical in
-    record { report = form; is_accepted = canonical_accepted; tree = form; is_canonical = record { canonical = form_of_one_unit.canonical; same = refl }; written = refl; reads_back = tree_of_canonical }
+    record {
+      report = form;
+      is_accepted = canonical_accepted;
+      tree = form;
+      is_canonical = record { canonical = form_of_one_unit.canonical; same = refl };
+      written = refl;
+      reads_back = tree_of_canonical;
+    }
 
 checked : IsCheckText None one_unit (codes "accepted\n")
 checked = inl (tree_of one_unit, accepted, refl)

@@ -1,6 +1,7 @@
 -- Canonical bytes are equal exactly for equal meanings, and for reports that say the same. They are their own canonical bytes,
 -- and those of each rearrangement.
-use Rattle.erd_canon.proofs.Common.{◌≡◌, ℕ, List, sym, refl, ap, ◌∙◌, subst, arith, Data, compact_text, IsShallow, IsNoDeeper, IsAccepted, Preference, meaning, IsTreeOf, IsCanonicalBytes}
+use Rattle.erd_canon.proofs.Common.{◌≡◌, ℕ, List, sym, refl, ap, ◌∙◌, subst, arith, Data, compact_text, IsShallow, IsNoDeeper, IsAccepted, Preference, meaning}
+use Rattle.erd_canon.proofs.Common.{IsTreeOf, IsCanonicalBytes}
 use Rattle.erd_check.proofs.ReadTrees.{read_is_tree}
 use Rattle.erd_normal.proofs.rearranged.RearrangedReports.{rearranged_means_the_same}
 use Rattle.erd_normal.proofs.same.complete.Complete.{says_and_means}
@@ -95,7 +96,8 @@ headline π b c k = record {
 }
 
 -- the text of the canonical form of what was read, which is the report r
-pub canonical_text : (π : Preference) (b : List ℕ) (t r : Data) (text : List ℕ) → IsTreeOf b t → IsAccepted π t → IsShallow t → r ≡ t → IsCanonicalText π r text → IsCanonicalBytes π b text
+pub canonical_text : (π : Preference) (b : List ℕ) (t r : Data) (text : List ℕ) → IsTreeOf b t → IsAccepted π t → IsShallow t → r ≡ t → IsCanonicalText π r text
+    → IsCanonicalBytes π b text
 canonical_text π b t r text is_read accepted shallow same form = record {
   report = t;
   is_accepted = record { read = is_read; accepted = accepted };

@@ -1,5 +1,8 @@
 -- What `clap` makes of the words that are options, before the other words of a subcommand.
-use Rattle.erd_canon.proofs.Common.{◌≡◌, ℕ, Bool, true, false, ◌&&◌, List, [], ◌∷◌, ◌++◌, slice_get, Some, None, codes, fold, Option, unwrap_or, refl, ap, ◌∙◌, ap₂, append_assoc, clap_on_literals, Rule, Shape, settle_passes, turn_passes, walk_passes, default_passes, is_valid, level_passes, Held, Walk, walked, walk_from, walk, finished, nothing_held, rows_after, settled, built, Text, option_words, preference_words, IsFileName, IsOptionText, program}
+use Rattle.erd_canon.proofs.Common.{◌≡◌, ℕ, Bool, true, false, ◌&&◌, List, [], ◌∷◌, ◌++◌, slice_get, Some, None, codes, fold, Option, unwrap_or, refl, ap, ◌∙◌}
+use Rattle.erd_canon.proofs.Common.{ap₂, append_assoc, clap_on_literals, Rule, Shape, settle_passes, turn_passes, walk_passes, default_passes, is_valid}
+use Rattle.erd_canon.proofs.Common.{level_passes, Held, Walk, walked, walk_from, walk, finished, nothing_held, rows_after, settled, built, Text, option_words}
+use Rattle.erd_canon.proofs.Common.{preference_words, IsFileName, IsOptionText, program}
 use Rattle.std.specs.List.{list_all}
 use Rattle.erd_canon.proofs.lines.PlainWords.{IsPlainWord, at, plain_word, turn_waited, waits_for, walked_waited}
 
@@ -27,7 +30,8 @@ pub leads_nowhere : {s : Shape} {h : Held} → Leads s [] h h
 leads_nowhere = record { walks = λ rest. refl; passes = λ rest. refl }
 
 -- a flag
-pub leads_flag : {s : Shape} {word : Text} {h k : Held} → walked s.rules [] (at h 1) word ≡ at k 1 → turn_passes s [] (at h 1) word ≡ true → Leads s (word ∷ []) h k
+pub leads_flag : {s : Shape} {word : Text} {h k : Held} → walked s.rules [] (at h 1) word ≡ at k 1 → turn_passes s [] (at h 1) word ≡ true
+    → Leads s (word ∷ []) h k
 unfolding walk_passes
 leads_flag {s = s} e p = record {
   walks = λ rest. ap (λ (w : Walk). fold (walked s.rules []) w rest) e;
@@ -46,9 +50,11 @@ given c id (Some text) h = record (settled c h) { pending = Some (id, text ∷ [
 pub record Knows (s : Shape) (word id : Text) : Type 0 where
   pub walks : (h : Held) → walked s.rules [] (at h 1) word ≡ waits_for id (waiting s.rules id h) 1
   pub passes : (h : Held) → settle_passes s.rules s.args_override_self h ≡ true → turn_passes s [] (at h 1) word ≡ true
-  pub takes : (h : Held) (text : Text) → IsPlainWord text → walked s.rules [] (waits_for id (waiting s.rules id h) 1) text ≡ at (given s.rules id (Some text) h) 1
+  pub takes : (h : Held) (text : Text) → IsPlainWord text → walked s.rules [] (waits_for id (waiting s.rules id h) 1) text
+      ≡ at (given s.rules id (Some text) h) 1
 
-pub leads_option : {s : Shape} {word id : Text} → Knows s word id → (text : Option Text) (h : Held) → IsOptionText text → settle_passes s.rules s.args_override_self h ≡ true
+pub leads_option : {s : Shape} {word id : Text} → Knows s word id → (text : Option Text) (h : Held) → IsOptionText text
+    → settle_passes s.rules s.args_override_self h ≡ true
     → Leads s (option_words word text) h (given s.rules id text h)
 unfolding walk_passes
 leads_option knows None h is e = leads_nowhere
@@ -68,31 +74,66 @@ leads_option {s = s} {word} {id} knows (Some text) h is e =
 -- `--prefer` of each, and `--steps`
 pub check_prefers : Knows (subcommand 0) (codes "--prefer") (codes "TYPE")
 unfolding clap_on_literals
-check_prefers = record { walks = λ h. refl; passes = λ h e. ap (λ b. b && true) e; takes = λ h text plain. walked_waited (subcommand 0).rules (codes "TYPE") (waiting (subcommand 0).rules (codes "TYPE") h) 1 text plain }
+check_prefers =
+    record {
+      walks = λ h. refl;
+      passes = λ h e. ap (λ b. b && true) e;
+      takes = λ h text plain. walked_waited (subcommand 0).rules (codes "TYPE") (waiting (subcommand 0).rules (codes "TYPE") h) 1 text plain;
+    }
 
 pub canon_prefers : Knows (subcommand 1) (codes "--prefer") (codes "TYPE")
 unfolding clap_on_literals
-canon_prefers = record { walks = λ h. refl; passes = λ h e. ap (λ b. b && true) e; takes = λ h text plain. walked_waited (subcommand 1).rules (codes "TYPE") (waiting (subcommand 1).rules (codes "TYPE") h) 1 text plain }
+canon_prefers =
+    record {
+      walks = λ h. refl;
+      passes = λ h e. ap (λ b. b && true) e;
+      takes = λ h text plain. walked_waited (subcommand 1).rules (codes "TYPE") (waiting (subcommand 1).rules (codes "TYPE") h) 1 text plain;
+    }
 
 pub compare_prefers : Knows (subcommand 2) (codes "--prefer") (codes "TYPE")
 unfolding clap_on_literals
-compare_prefers = record { walks = λ h. refl; passes = λ h e. ap (λ b. b && true) e; takes = λ h text plain. walked_waited (subcommand 2).rules (codes "TYPE") (waiting (subcommand 2).rules (codes "TYPE") h) 1 text plain }
+compare_prefers =
+    record {
+      walks = λ h. refl;
+      passes = λ h e. ap (λ b. b && true) e;
+      takes = λ h text plain. walked_waited (subcommand 2).rules (codes "TYPE") (waiting (subcommand 2).rules (codes "TYPE") h) 1 text plain;
+    }
 
 pub differences_prefers : Knows (subcommand 3) (codes "--prefer") (codes "TYPE")
 unfolding clap_on_literals
-differences_prefers = record { walks = λ h. refl; passes = λ h e. ap (λ b. b && true) e; takes = λ h text plain. walked_waited (subcommand 3).rules (codes "TYPE") (waiting (subcommand 3).rules (codes "TYPE") h) 1 text plain }
+differences_prefers =
+    record {
+      walks = λ h. refl;
+      passes = λ h e. ap (λ b. b && true) e;
+      takes = λ h text plain. walked_waited (subcommand 3).rules (codes "TYPE") (waiting (subcommand 3).rules (codes "TYPE") h) 1 text plain;
+    }
 
 pub ballots_prefers : Knows (subcommand 4) (codes "--prefer") (codes "TYPE")
 unfolding clap_on_literals
-ballots_prefers = record { walks = λ h. refl; passes = λ h e. ap (λ b. b && true) e; takes = λ h text plain. walked_waited (subcommand 4).rules (codes "TYPE") (waiting (subcommand 4).rules (codes "TYPE") h) 1 text plain }
+ballots_prefers =
+    record {
+      walks = λ h. refl;
+      passes = λ h e. ap (λ b. b && true) e;
+      takes = λ h text plain. walked_waited (subcommand 4).rules (codes "TYPE") (waiting (subcommand 4).rules (codes "TYPE") h) 1 text plain;
+    }
 
 pub prepare_prefers : Knows (subcommand 5) (codes "--prefer") (codes "TYPE")
 unfolding clap_on_literals
-prepare_prefers = record { walks = λ h. refl; passes = λ h e. ap (λ b. b && true) e; takes = λ h text plain. walked_waited (subcommand 5).rules (codes "TYPE") (waiting (subcommand 5).rules (codes "TYPE") h) 1 text plain }
+prepare_prefers =
+    record {
+      walks = λ h. refl;
+      passes = λ h e. ap (λ b. b && true) e;
+      takes = λ h text plain. walked_waited (subcommand 5).rules (codes "TYPE") (waiting (subcommand 5).rules (codes "TYPE") h) 1 text plain;
+    }
 
 pub prepare_chooses : Knows (subcommand 5) (codes "--steps") (codes "STEPS")
 unfolding clap_on_literals
-prepare_chooses = record { walks = λ h. refl; passes = λ h e. ap (λ b. b && true) e; takes = λ h text plain. walked_waited (subcommand 5).rules (codes "STEPS") (waiting (subcommand 5).rules (codes "STEPS") h) 1 text plain }
+prepare_chooses =
+    record {
+      walks = λ h. refl;
+      passes = λ h e. ap (λ b. b && true) e;
+      takes = λ h text plain. walked_waited (subcommand 5).rules (codes "STEPS") (waiting (subcommand 5).rules (codes "STEPS") h) 1 text plain;
+    }
 
 -- what is held behind a flag that is the first word
 abbrev pub flagged : ℕ → Text → Held
@@ -110,7 +151,8 @@ held_json i true = flagged i (codes "--json")
 abbrev pub held_first : ℕ → Bool → Option Text → Held
 held_first i json prefer = given (subcommand i).rules (codes "TYPE") prefer (held_json i json)
 
-pub leads_json : (i : ℕ) → Leads (subcommand i) (codes "--json" ∷ []) nothing_held (flagged i (codes "--json")) → settle_passes (subcommand i).rules (subcommand i).args_override_self (flagged i (codes "--json")) ≡ true
+pub leads_json : (i : ℕ) → Leads (subcommand i) (codes "--json" ∷ []) nothing_held (flagged i (codes "--json")) → settle_passes (subcommand i).rules
+    (subcommand i).args_override_self (flagged i (codes "--json")) ≡ true
     → Knows (subcommand i) (codes "--prefer") (codes "TYPE") → (json : Bool) (prefer : Option Text) → IsOptionText prefer
     → Leads (subcommand i) (json_words json prefer) nothing_held (held_first i json prefer)
 leads_json i flag settles knows false prefer is = leads_option knows prefer nothing_held is refl

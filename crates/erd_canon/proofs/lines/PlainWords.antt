@@ -1,5 +1,7 @@
 -- How `clap` reads a word that is no flag, at a command with no subcommands.
-use Rattle.erd_canon.proofs.Common.{◌≡◌, ℕ, Bool, true, false, ◌&&◌, ◌≢◌, List, [], ◌∷◌, ◌==◌, Some, None, Option, option_map, unwrap_or, Bor, bytes_eq, refl, ap, ap₂, ne_eqb, Shape, word_passes, step_passes, turn_passes, Rule, arg_by_id, arg_by_index, Held, option, idle, next, value, option_word, word_met, Walk, to_positional, after_step, walked, Text}
+use Rattle.erd_canon.proofs.Common.{◌≡◌, ℕ, Bool, true, false, ◌&&◌, ◌≢◌, List, [], ◌∷◌, ◌==◌, Some, None, Option, option_map, unwrap_or, Bor, bytes_eq, refl}
+use Rattle.erd_canon.proofs.Common.{ap, ap₂, ne_eqb, Shape, word_passes, step_passes, turn_passes, Rule, arg_by_id, arg_by_index, Held, option, idle, next}
+use Rattle.erd_canon.proofs.Common.{value, option_word, word_met, Walk, to_positional, after_step, walked, Text}
 use Rattle.clap.specs.Lexer.{long_of, short_of}
 use Rattle.clap.specs.Walk.{Step}
 

@@ -1,5 +1,6 @@
 -- What a comparison answers under one preference, it says under each other one that accepts both reports.
-use Rattle.erd_canon.proofs.Common.{◌≡◌, ℕ, ◌↔◌, List, Some, None, Option, sym, refl, ap, ◌∙◌, subst, IsAccepted, Preference, meaning, record_at, Differ, IsDifference, Difference, IsComparison}
+use Rattle.erd_canon.proofs.Common.{◌≡◌, ℕ, ◌↔◌, List, Some, None, Option, sym, refl, ap, ◌∙◌, subst, IsAccepted, Preference, meaning, record_at, Differ}
+use Rattle.erd_canon.proofs.Common.{IsDifference, Difference, IsComparison}
 use Rattle.erd_meaning.specs.Meaning.{Meaning, ObjectRecord}
 use Rattle.erd_check.proofs.ReadTrees.{read_is_tree}
 use Rattle.erd_normal.proofs.same.complete.Complete.{preferences_agree, says_and_means}
@@ -20,7 +21,9 @@ none_differs : (m n : Meaning) (found : Option Difference) → IsDifference m n 
 none_differs m n None is = (λ _. is, λ _. refl)
 none_differs m n (Some d) is = (
   λ e. absurd (cc e),
-  λ same. absurd (not_itself (record_at m d.part d.key) d.how (subst (λ r. Differ (record_at m d.part d.key) r d.how) (ap (λ x. record_at x d.part d.key) (sym same)) is.differ)),
+  λ same. absurd
+      (not_itself (record_at m d.part d.key) d.how
+      (subst (λ r. Differ (record_at m d.part d.key) r d.how) (ap (λ x. record_at x d.part d.key) (sym same)) is.differ)),
 )
 
 -- nothing differs exactly if the reports say the same

@@ -1,5 +1,7 @@
 -- What a list of the differences of two accepted reports answers.
-use Rattle.erd_canon.proofs.Common.{◌≡◌, ℕ, ◌≤◌, Result, Ok, Err, IfOk, List, [], ◌∷◌, subst, refl, inr, arith, Data, IsAccepted, Preference, meaning, IsTreeOf, RefusedSide, TellsRefusalAs, TellsSideAs, AnswersData, Outcome, IsUtf8, compact_text, items_depth, ItemsHaveFittingNumbers, items_of, map, AreTrees}
+use Rattle.erd_canon.proofs.Common.{◌≡◌, ℕ, ◌≤◌, Result, Ok, Err, IfOk, List, [], ◌∷◌, subst, refl, inr, arith, Data, IsAccepted, Preference, meaning, IsTreeOf}
+use Rattle.erd_canon.proofs.Common.{RefusedSide, TellsRefusalAs, TellsSideAs, AnswersData, Outcome, IsUtf8, compact_text, items_depth, ItemsHaveFittingNumbers}
+use Rattle.erd_canon.proofs.Common.{items_of, map, AreTrees}
 use Rattle.erd_compare.specs.SelectionData.{detailed_data}
 use Rattle.erd_compare.specs.SelectionDifferences.{AreDetailedDifferences}
 use Rattle.erd_compare.specs.declared.detailed.DetailedDifference.{DetailedDifference}
@@ -12,14 +14,16 @@ use Rattle.erd_canon.proofs.data_values.DataTrees.{IsLowTree}
 use Rattle.erd_canon.proofs.data_values.DetailedTrees.{detailed_value}
 
 -- the differences of the meanings of two trees that bytes are
-pub listed : (π : Preference) (left right : List ℕ) (first most : ℕ) (t u r s : Data) (found : List DetailedDifference) → IsTreeOf left t → IsAccepted π t → r ≡ t → IsTreeOf right u → IsAccepted π u → s ≡ u
+pub listed : (π : Preference) (left right : List ℕ) (first most : ℕ) (t u r s : Data) (found : List DetailedDifference) → IsTreeOf left t → IsAccepted π t
+    → r ≡ t → IsTreeOf right u → IsAccepted π u → s ≡ u
     → AreDetailedDifferences (meaning π r) (meaning π s) first most found → AreDetailed π left right first most found
 listed π left right first most t u r s found left_read left_accepted left_same right_read right_accepted right_same is = record {
   left_tree = t;
   right_tree = u;
   left_accepted = record { read = left_read; accepted = left_accepted };
   right_accepted = record { read = right_read; accepted = right_accepted };
-  differences = subst (λ d. AreDetailedDifferences (meaning π d) (meaning π u) first most found) left_same (subst (λ d. AreDetailedDifferences (meaning π r) (meaning π d) first most found) right_same is);
+  differences = subst (λ d. AreDetailedDifferences (meaning π d) (meaning π u) first most found) left_same
+      (subst (λ d. AreDetailedDifferences (meaning π r) (meaning π d) first most found) right_same is);
 }
 
 -- ---- the text
@@ -45,13 +49,16 @@ list_text text ds utf8 is = data_text text (differences_data ds) utf8 is (trees 
 -- ---- the answers
 
 -- if a report is refused
-pub sides_refused : (π : Preference) (left right : List ℕ) (s : Side) (outcome : Outcome) (text : List ℕ) → RefusedSide π left right s → AnswersData (TellsSideAs (TellsRefusalAs outcome) s) text
+pub sides_refused : (π : Preference) (left right : List ℕ) (s : Side) (outcome : Outcome) (text : List ℕ) → RefusedSide π left right s
+    → AnswersData (TellsSideAs (TellsRefusalAs outcome) s) text
     → IsComparedData π left right outcome text × IsListedData π left right outcome text
 sides_refused π left right s outcome text is a =
-    let names = λ (Both : Type 0). side_data (TellsRefusalAs outcome) (λ bytes. IsRefusalData π bytes outcome) π left right s a.value Both (λ bytes. refusal_data π bytes outcome) is a.says in
+    let names = λ (Both : Type 0). side_data (TellsRefusalAs outcome) (λ bytes. IsRefusalData π bytes outcome) π left right s a.value Both
+    (λ bytes. refusal_data π bytes outcome) is a.says in
     (record { value = a.value; compared = names _; is_text = a.is_text }, record { value = a.value; listed = names _; is_text = a.is_text })
 
-pub both_listed : (π : Preference) (left right text : List ℕ) (outcome : Outcome) (ds : List DetailedDifference) → AreDetailed π left right 0 any_size ds → outcome ≡ listing_outcome ds → IsDataText text (differences_data ds)
+pub both_listed : (π : Preference) (left right text : List ℕ) (outcome : Outcome) (ds : List DetailedDifference) → AreDetailed π left right 0 any_size ds
+    → outcome ≡ listing_outcome ds → IsDataText text (differences_data ds)
     → IsListedData π left right outcome text
 both_listed π left right text outcome ds is ends written = record { value = differences_data ds; listed = inr (inr (ds, is, ends, refl)); is_text = written }
 

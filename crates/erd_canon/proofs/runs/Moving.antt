@@ -1,5 +1,6 @@
 -- What moves from a buffer to a writer, in one step after another.
-use Rattle.erd_canon.proofs.Common.{◌≡◌, ℕ, List, [], ◌++◌, length, take, drop, OnOk, Option, sym, ap, ◌∙◌, subst, append_assoc, append-nil, on_ok_weaker, Ok, Err, Result, OnErr, take-append-drop, on_err_weaker, Appends, IsPartWritten, IsFrontMoved, IsMoved}
+use Rattle.erd_canon.proofs.Common.{◌≡◌, ℕ, List, [], ◌++◌, length, take, drop, OnOk, Option, sym, ap, ◌∙◌, subst, append_assoc, append-nil, on_ok_weaker, Ok}
+use Rattle.erd_canon.proofs.Common.{Err, Result, OnErr, take-append-drop, on_err_weaker, Appends, IsPartWritten, IsFrontMoved, IsMoved}
 use Rattle.std.proofs.KnownBytes.{Appends-trans}
 use lib.Seq.{take-append_seam}
 
@@ -29,18 +30,23 @@ passed : {a b : Option (List ℕ)} {p k : List ℕ} (xs : List ℕ) → IsMoved 
 passed {a} {b} {p} xs m none = subst (λ l. IsMoved a b (p ++ xs) (l ++ xs)) none (IsMoved-behind xs m)
 
 -- the buffer was emptied, and bytes were written past it
-pub IsMoved-through : {a b : Option (List ℕ)} {p k : List ℕ} (c : Option (List ℕ)) (xs : List ℕ) → IsMoved a b p k → k ≡ [] → Appends b c xs → IsMoved a c (p ++ xs) k
-IsMoved-through c xs m none wrote = IsMoved-trans (passed xs m none) (record { written = xs; wrote = wrote; split = sym (ap (λ l. xs ++ l) none ∙ append-nil xs) })
+pub IsMoved-through : {a b : Option (List ℕ)} {p k : List ℕ} (c : Option (List ℕ)) (xs : List ℕ) → IsMoved a b p k → k ≡ [] → Appends b c xs
+    → IsMoved a c (p ++ xs) k
+IsMoved-through c xs m none wrote =
+    IsMoved-trans (passed xs m none) (record { written = xs; wrote = wrote; split = sym (ap (λ l. xs ++ l) none ∙ append-nil xs) })
 
 pub IsFrontMoved-through : {a b c : Option (List ℕ)} {p k xs : List ℕ} → IsMoved a b p k → k ≡ [] → IsPartWritten b c xs → IsFrontMoved a c (p ++ xs)
 IsFrontMoved-through {xs = xs} m none part = IsFrontMoved-trans (passed xs m none) (IsFrontMoved-part part)
 
 -- the front of what is left was added to the buffer
-pub IsMoved-more : {a b c : Option (List ℕ)} {p left q : List ℕ} (k xs rest : List ℕ) → IsMoved a b p (k ++ left) → left ≡ xs ++ rest → IsMoved b c (k ++ xs) q → IsMoved a c p (q ++ rest)
-IsMoved-more {b = b} {c} {q = q} k xs rest m is n = IsMoved-trans m (subst (λ l. IsMoved b c l (q ++ rest)) (append_assoc k xs rest ∙ ap (λ l. k ++ l) (sym is)) (IsMoved-behind rest n))
+pub IsMoved-more : {a b c : Option (List ℕ)} {p left q : List ℕ} (k xs rest : List ℕ) → IsMoved a b p (k ++ left) → left ≡ xs ++ rest → IsMoved b c (k ++ xs) q
+    → IsMoved a c p (q ++ rest)
+IsMoved-more {b = b} {c} {q = q} k xs rest m is n =
+    IsMoved-trans m (subst (λ l. IsMoved b c l (q ++ rest)) (append_assoc k xs rest ∙ ap (λ l. k ++ l) (sym is)) (IsMoved-behind rest n))
 
 -- a write failed as the front of what is left was added
-pub IsFrontMoved-more : {a b c : Option (List ℕ)} {p left : List ℕ} (k xs rest : List ℕ) → IsMoved a b p (k ++ left) → left ≡ xs ++ rest → IsFrontMoved b c (k ++ xs) → IsFrontMoved a c p
+pub IsFrontMoved-more : {a b c : Option (List ℕ)} {p left : List ℕ} (k xs rest : List ℕ) → IsMoved a b p (k ++ left) → left ≡ xs ++ rest
+    → IsFrontMoved b c (k ++ xs) → IsFrontMoved a c p
 IsFrontMoved-more k xs rest m is n = (n.0 ++ rest, IsMoved-more k xs rest m is n.1)
 
 -- a first part of the bytes was written
@@ -51,20 +57,24 @@ IsPartWritten-moved {a} {b} {q = q} m = record {
 }
 
 -- the first of two parts of a text was added
-pub IsMoved-first : {a b : Option (List ℕ)} {k : List ℕ} (h xs ys whole : List ℕ) → whole ≡ xs ++ ys → IsMoved a b (h ++ xs) k → IsMoved a b (h ++ whole) (k ++ ys)
+pub IsMoved-first : {a b : Option (List ℕ)} {k : List ℕ} (h xs ys whole : List ℕ) → whole ≡ xs ++ ys → IsMoved a b (h ++ xs) k
+    → IsMoved a b (h ++ whole) (k ++ ys)
 IsMoved-first {a} {b} {k} h xs ys whole is m = subst (λ l. IsMoved a b l (k ++ ys)) (append_assoc h xs ys ∙ ap (λ l. h ++ l) (sym is)) (IsMoved-behind ys m)
 
 pub IsFrontMoved-first : {a b : Option (List ℕ)} (h xs ys whole : List ℕ) → whole ≡ xs ++ ys → IsFrontMoved a b (h ++ xs) → IsFrontMoved a b (h ++ whole)
 IsFrontMoved-first h xs ys whole is m = (m.0 ++ ys, IsMoved-first h xs ys whole is m.1)
 
 -- what a last call adds
-pub last_moved : {X E : Type 0} {a b : Option (List ℕ)} {p q : List ℕ} (r : Result X E) (c : Option (List ℕ)) (s : List ℕ) → IsMoved a b p q → OnOk r (IsMoved b c q s) → OnOk r (IsMoved a c p s)
+pub last_moved : {X E : Type 0} {a b : Option (List ℕ)} {p q : List ℕ} (r : Result X E) (c : Option (List ℕ)) (s : List ℕ) → IsMoved a b p q
+    → OnOk r (IsMoved b c q s) → OnOk r (IsMoved a c p s)
 last_moved r c s m is = on_ok_weaker r (λ n. IsMoved-trans m n) is
 
-pub last_part : {X E : Type 0} {a b : Option (List ℕ)} {p q : List ℕ} (r : Result X E) (c : Option (List ℕ)) → IsMoved a b p q → OnErr r (IsFrontMoved b c q) → OnErr r (IsFrontMoved a c p)
+pub last_part : {X E : Type 0} {a b : Option (List ℕ)} {p q : List ℕ} (r : Result X E) (c : Option (List ℕ)) → IsMoved a b p q → OnErr r (IsFrontMoved b c q)
+    → OnErr r (IsFrontMoved a c p)
 last_part r c m is = on_err_weaker r (λ n. IsFrontMoved-trans m n) is
 
 -- a first part of the bytes was written, whether the last write failed or not
-pub part_of_last : {X E : Type 0} {a b c : Option (List ℕ)} {p q : List ℕ} (r : Result X E) (s : List ℕ) → IsMoved a b p q → OnOk r (IsMoved b c q s) → OnErr r (IsFrontMoved b c q) → IsPartWritten a c p
+pub part_of_last : {X E : Type 0} {a b c : Option (List ℕ)} {p q : List ℕ} (r : Result X E) (s : List ℕ) → IsMoved a b p q → OnOk r (IsMoved b c q s)
+    → OnErr r (IsFrontMoved b c q) → IsPartWritten a c p
 part_of_last (Ok x) s m done front = IsPartWritten-moved (IsMoved-trans m done)
 part_of_last (Err e) s m done front = IsPartWritten-moved (IsFrontMoved-trans m front).1

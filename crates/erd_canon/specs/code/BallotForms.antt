@@ -4,8 +4,8 @@ use Rattle.serde_json.specs.Data.{Data}
 use Rattle.serde_json.specs.Written.{compact_text}
 use Rattle.erd_meaning.specs.Keys.{Preference}
 use Rattle.erd_shown.specs.BallotLines.{head_lines}
-use Rattle.erd_canon.specs.BallotAnswering.{differing_lines}
-use Rattle.erd_canon.specs.BallotAnswers.{TellsBeside, TellsDiffering, ballots_told, differing_text}
+use Rattle.erd_canon.specs.BallotAnswering.{IsToldByLines}
+use Rattle.erd_canon.specs.BallotAnswers.{IsToldByJson, TellsBeside, TellsDiffering, ballots_told}
 use Rattle.erd_canon.specs.EngineTexts.{text_of_lines}
 use Rattle.erd_canon.specs.declared.data.ballots.BallotForm.{BallotForm}
 use Rattle.erd_canon.specs.declared.data.ballots.BallotForm.TheVariants as form
@@ -20,6 +20,6 @@ form_text form.Lines = λ π t. text_of_lines (head_lines π t)
 
 -- The outcome and the text for the ballots of two accepted reports.
 abbrev pub pair_tells : PairForm → Preference → Data → Data → Outcome → List ℕ → Type 0
-pair_tells pair.Json π = TellsDiffering differing_text π
-pair_tells pair.Lines π = TellsDiffering differing_lines π
+pair_tells pair.Json π = TellsDiffering IsToldByJson π
+pair_tells pair.Lines π = TellsDiffering IsToldByLines π
 pair_tells (pair.Beside i j) π = TellsBeside i j π

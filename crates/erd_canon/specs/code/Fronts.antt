@@ -38,14 +38,17 @@ AllHave Has [] = Unit {0}
 AllHave Has (x ∷ xs) = Has x × AllHave Has xs
 
 -- The walk is at `rest`. With what it will show of that, all was appended and counted.
-pub record IsReached {A : Type 0} (size : A → ℕ) (text_of : Bool → A → List ℕ) (Has : A → Type 0) (piece : Piece) (entries : List A) (before text : List ℕ) (left : Piece) (rest : List A) : Type 0 where
+pub record IsReached {A : Type 0} (size : A → ℕ) (text_of : Bool → A → List ℕ) (Has : A → Type 0) (piece : Piece) (entries : List A) (before text : List ℕ)
+    (left : Piece) (rest : List A) : Type 0 where
   pub low : left.most ≤ piece.most
-  pub written : text ++ joined_text text_of (nat_lt left.most piece.most) (ahead size left rest) ≡ before ++ joined_text text_of false (ahead size piece entries)
+  pub written : text ++ joined_text text_of (nat_lt left.most piece.most) (ahead size left rest) ≡ before ++ joined_text text_of false
+      (ahead size piece entries)
   pub count : (piece.most - left.most) + length (ahead size left rest) ≡ length (ahead size piece entries)
   pub fits : AllHave Has (ahead size left rest) → AllHave Has (ahead size piece entries)
 
 -- The text of the entries of a piece was appended, one behind the other. Each of them has the property.
-pub record AppendsEntries {A : Type 0} (size : A → ℕ) (text_of : Bool → A → List ℕ) (Has : A → Type 0) (piece : Piece) (entries : List A) (told : Told) (before after : List ℕ) : Type 0 where
+pub record AppendsEntries {A : Type 0} (size : A → ℕ) (text_of : Bool → A → List ℕ) (Has : A → Type 0) (piece : Piece) (entries : List A) (told : Told)
+    (before after : List ℕ) : Type 0 where
   pub shown : List A
   pub is_piece : IsPiece size piece entries shown told
   pub fits : AllHave Has shown

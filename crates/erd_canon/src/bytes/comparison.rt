@@ -1,5 +1,6 @@
 ghost use Rattle.std.specs.Prelude.{ℕ, List, IfErr, IfOk, None, option_copied};
-ghost use Rattle.erd_canon.specs.Words.{view, IsShallow, Preference, AgreesUnderEach, TellsWhatIsSaid, IsAcceptedReport, IsTreeOf, IsComparison, IsSomeReport, RefusedSide};
+ghost use Rattle.erd_canon.specs.Words.{view, IsShallow, Preference, AgreesUnderEach, TellsWhatIsSaid, IsAcceptedReport, IsTreeOf, IsComparison, IsSomeReport};
+ghost use Rattle.erd_canon.specs.Words.{RefusedSide};
 
 use crate::bytes::acceptance::{Input, check_input};
 use crate::bytes::disposal::{Disposal, Free};
@@ -130,8 +131,10 @@ fn compare_with_report<I: Input, D: Disposal>(
     right: I,
     disposal: &D,
 ) -> Result<Option<Difference>, Side>
-    ensures ok { IfOk result (λ found. (b : List ℕ) → IsAcceptedReport left.now.prefer b (view left.now.tree) → IsComparison left.now.prefer b (I.bytes right) found) }
-    ensures refused { IfErr result (λ side. (b : List ℕ) → IsAcceptedReport left.now.prefer b (view left.now.tree) → RefusedSide left.now.prefer b (I.bytes right) side) }
+    ensures ok { IfOk result (λ found. (b : List ℕ) → IsAcceptedReport left.now.prefer b (view left.now.tree)
+        → IsComparison left.now.prefer b (I.bytes right) found) }
+    ensures refused { IfErr result (λ side. (b : List ℕ) → IsAcceptedReport left.now.prefer b (view left.now.tree)
+        → RefusedSide left.now.prefer b (I.bytes right) side) }
 {
     let tree = right_tree_of(alloc, right)?;
     let answer = compare_report_with_tree(alloc, left, &tree, disposal);
@@ -147,8 +150,10 @@ fn compare_report_with_tree<D: Disposal>(
     disposal: &D,
 ) -> Result<Option<Difference>, Side>
     requires nests { IsShallow (view right.now) }
-    ensures ok { IfOk result (λ found. (b c : List ℕ) → IsAcceptedReport left.now.prefer b (view left.now.tree) → IsTreeOf c (view right.now) → IsComparison left.now.prefer b c found) }
-    ensures refused { IfErr result (λ side. (b c : List ℕ) → IsAcceptedReport left.now.prefer b (view left.now.tree) → IsTreeOf c (view right.now) → RefusedSide left.now.prefer b c side) }
+    ensures ok { IfOk result (λ found. (b c : List ℕ) → IsAcceptedReport left.now.prefer b (view left.now.tree) → IsTreeOf c (view right.now)
+        → IsComparison left.now.prefer b c found) }
+    ensures refused { IfErr result (λ side. (b c : List ℕ) → IsAcceptedReport left.now.prefer b (view left.now.tree) → IsTreeOf c (view right.now)
+        → RefusedSide left.now.prefer b c side) }
 {
     let report = match accept_with(alloc, right, left.preference()) {
         Ok(report) => report,

@@ -1,5 +1,7 @@
 ghost use Rattle.std.specs.Prelude.{◌≡◌, IfOk, codes, false, map};
-ghost use Rattle.erd_canon.specs.Words.{ballots_subcommand, canon_subcommand, check_subcommand, compare_subcommand, differences_subcommand, file_rule, json_rule, list_rule, prefer_rule, prepare_subcommand, program, report_rule, optional_file_rule, steps_rule, app_of, rule_of, with_rule};
+ghost use Rattle.erd_canon.specs.Words.{ballots_subcommand, canon_subcommand, check_subcommand, compare_subcommand, differences_subcommand, file_rule};
+ghost use Rattle.erd_canon.specs.Words.{json_rule, list_rule, prefer_rule, prepare_subcommand, program, report_rule, optional_file_rule, steps_rule, app_of};
+ghost use Rattle.erd_canon.specs.Words.{rule_of, with_rule};
 ghost use Rattle.clap.specs.declared.builder.command.Command.TheViews.{out-Command};
 
 use crate::commands::help;

@@ -132,9 +132,11 @@ its style and how many lines a voter sees on it:
   ballot [\"local-level\",\"\",\"S1\"]: 14 lines
 
 With a second file, it writes `same ballots`, or a line for each ballot that only one report has, or
-that differs:
+that differs. Below a ballot that differs stand lines for what does:
 
   ballot [\"local-level\",\"\",\"S1\"]: differs
+    changed units
+    moved contest [\"local-level\",\"\",\"C1\"]
 
 Two ballots differ in their contests, headers and choices or the order of these, in which precincts and
 parties get them, or in words that they print or may print of these, such as titles, names, and how many
@@ -161,12 +163,13 @@ pub const PREPARE: &str = "Makes an export ready by steps, and writes the prepar
 pub const PREPARE_AT_LENGTH: &str =
     "Reads the report in FILE, does the chosen steps, and writes the prepared report to standard output, with
 no line end. FILE stays as it is. To standard error it writes a line for each step that changed or left
-something, and then the faults of the prepared report, as `erd check` does:
+something, and then the faults of the prepared report, as `erd check` does, with a line for each reason
+that says what may fix it:
 
   nulls: 3 changed
 
-Without `--steps` it does those of the group `removed`. `erd prepare --list FILE` names the steps that
-would do something.";
+A byte order mark is taken off, and told. Without `--steps` it does the steps of the group `removed`.
+`erd prepare --list FILE` names the steps that would do something.";
 
 /// The exit statuses of `prepare`, and an example.
 pub const PREPARE_ENDS: &str = "Exit status:

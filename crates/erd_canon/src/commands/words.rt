@@ -1,5 +1,7 @@
 ghost use Rattle.std.specs.Prelude.{◌≡◌, ℕ, List, ◌∷◌, map, MatchResult, codes, string_bytes};
-ghost use Rattle.erd_canon.specs.Words.{HasPlainWords, words_of, has_flag, preference_in, IsFaultFor, IsLineRead, ballots_in, ballots_request, check_request, compare_request, differences_request, pair_request, preparation_in, prepare_request, request_in, subcommand_request, word_for, first_of, found_of, kind_of, rows_of, subcommand_rows_of};
+ghost use Rattle.erd_canon.specs.Words.{HasPlainWords, words_of, has_flag, preference_in, IsFaultFor, IsLineRead, ballots_in, ballots_request, check_request};
+ghost use Rattle.erd_canon.specs.Words.{compare_request, differences_request, pair_request, preparation_in, prepare_request, request_in, subcommand_request};
+ghost use Rattle.erd_canon.specs.Words.{word_for, first_of, found_of, kind_of, rows_of, subcommand_rows_of};
 
 use crate::commands::builder::program_command;
 use crate::commands::prefer::Prefer;

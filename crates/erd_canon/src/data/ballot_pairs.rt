@@ -1,7 +1,7 @@
 //! The ballots of two reports as data.
 ghost use Rattle.std.specs.Prelude.{◌≡◌, map, string_bytes, IfErr, IfOk, option_copied};
-ghost use Rattle.erd_canon.specs.BallotAnswering.{differing_lines};
-ghost use Rattle.erd_canon.specs.BallotAnswers.{AreBothTold, IsBallotDifferencesData, IsBallotsBesideData, TellsBeside, TellsDiffering, differing_text};
+ghost use Rattle.erd_canon.specs.BallotAnswering.{IsToldByLines};
+ghost use Rattle.erd_canon.specs.BallotAnswers.{AreBothTold, IsBallotDifferencesData, IsBallotsBesideData, IsToldByJson, TellsBeside, TellsDiffering};
 ghost use Rattle.erd_canon.specs.Words.{view, listing_outcome, RefusedSide};
 ghost use Rattle.erd_canon.specs.code.BallotForms.{pair_tells};
 ghost use Rattle.erd_shown.specs.BallotDifferences.{of_style};
@@ -102,7 +102,8 @@ pub(crate) fn ballots_of_both(
     prefer: Option<&str>,
     form: PairForm,
 ) -> Result<(Outcome, String), Side>
-    ensures told { IfOk result (λ it. AreBothTold (pair_tells form (option_copied prefer.entry)) (option_copied prefer.entry) left.now right.now it.0 (string_bytes it.1)) }
+    ensures told { IfOk result (λ it. AreBothTold (pair_tells form (option_copied prefer.entry)) (option_copied prefer.entry) left.now right.now
+        it.0 (string_bytes it.1)) }
     ensures refused { IfErr result (RefusedSide (option_copied prefer.entry) left.now right.now) }
 {
     let left_tree = left_tree_of(alloc, left)?;
@@ -145,10 +146,10 @@ fn told_as_json(
     right: &Report,
 ) -> Result<(Outcome, String), AllocError>
     requires one_preference { left.now.prefer ≡ right.now.prefer }
-    ensures { IfOk result (λ it. TellsDiffering differing_text left.now.prefer (view left.now.tree) (view right.now.tree) it.0 (string_bytes it.1)) }
+    ensures { IfOk result (λ it. TellsDiffering IsToldByJson left.now.prefer (view left.now.tree) (view right.now.tree) it.0 (string_bytes it.1)) }
 {
     let found = differing_ballots(alloc, left, right)?;
-    let text = ballot_differences_text(alloc, &found)?;
+    let text = ballot_differences_text(alloc, left, right, &found)?;
     Ok((outcome_of(&found), text))
 }
 
@@ -159,10 +160,10 @@ fn told_as_lines(
     right: &Report,
 ) -> Result<(Outcome, String), AllocError>
     requires one_preference { left.now.prefer ≡ right.now.prefer }
-    ensures { IfOk result (λ it. TellsDiffering differing_lines left.now.prefer (view left.now.tree) (view right.now.tree) it.0 (string_bytes it.1)) }
+    ensures { IfOk result (λ it. TellsDiffering IsToldByLines left.now.prefer (view left.now.tree) (view right.now.tree) it.0 (string_bytes it.1)) }
 {
     let found = differing_ballots(alloc, left, right)?;
-    let text = ballot_differences_lines(alloc, &found)?;
+    let text = ballot_differences_lines(alloc, left, right, &found)?;
     Ok((outcome_of(&found), text))
 }
 

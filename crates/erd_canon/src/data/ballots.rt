@@ -84,7 +84,8 @@ fn ballots_in(
     form: BallotForm,
 ) -> Result<String, Refusal>
     requires nests { IsShallow (view tree.now) }
-    ensures told { IfOk result (λ text. (b : List ℕ) → IsTreeOf b (view tree.now) → IsReportTold (form_text form) (option_copied prefer.entry) b (string_bytes text)) }
+    ensures told { IfOk result (λ text. (b : List ℕ) → IsTreeOf b (view tree.now) → IsReportTold (form_text form) (option_copied prefer.entry)
+        b (string_bytes text)) }
     ensures refused { IfErr result (λ refusal. (b : List ℕ) → IsTreeOf b (view tree.now) → RefusedAs (option_copied prefer.entry) b refusal) }
 {
     let report = accept_with(alloc, tree, prefer)?;

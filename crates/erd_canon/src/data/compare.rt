@@ -1,5 +1,6 @@
 ghost use Rattle.std.specs.Prelude.{◌≡◌, ◌++◌, string_bytes, IfOk, OnOk, option_copied};
-ghost use Rattle.erd_canon.specs.Words.{compact_text, IsComparedData, IsDataText, IsListedData, comparison_data, comparison_outcome, differences_data, listing_outcome};
+ghost use Rattle.erd_canon.specs.Words.{compact_text, IsComparedData, IsDataText, IsListedData, comparison_data, comparison_outcome, differences_data};
+ghost use Rattle.erd_canon.specs.Words.{listing_outcome};
 ghost use Rattle.erd_canon.specs.code.RefusalData.{AnswersData, NamesSide, TellsRefusalAs, TellsSideAs};
 
 use crate::bytes::comparison::compare_bytes_with;

@@ -45,7 +45,7 @@ fn step_value(alloc: Global, step: &Step) -> Result<Value, AllocError>
 }
 
 /// Returns the number of a reason, from 1 to 18.
-fn number_of(reason: &Reason) -> u8
+pub(crate) fn number_of(reason: &Reason) -> u8
     ensures { result ≡ reason_number reason.now }
 {
     match reason {

@@ -1,5 +1,6 @@
 ghost use Rattle.std.specs.Prelude.{ℕ, List, ◌≡◌, ◌∷◌, ◌++◌, length, string_bytes, IfOk, OnOk};
-ghost use Rattle.erd_canon.specs.Words.{iter_rest, IterYieldsInOrder, Data, comma_if, compact_text, HasFittingNumbers, difference_line, detailed_data, fault_line, fault_data, whole_line, IsPieceData};
+ghost use Rattle.erd_canon.specs.Words.{iter_rest, IterYieldsInOrder, Data, comma_if, compact_text, HasFittingNumbers, difference_line, detailed_data};
+ghost use Rattle.erd_canon.specs.Words.{fault_line, fault_data, whole_line, IsPieceData};
 ghost use Rattle.erd_canon.specs.code.Fronts.{AppendsEntries, FitsIn, IsReached, size_in, text_in};
 ghost use Rattle.erd_canon.specs.code.RefusalData.{AppendsData};
 
@@ -66,7 +67,9 @@ pub(crate) fn push_piece<T: Listed>(
     text: &mut String,
 ) -> Result<usize, AllocError>
     requires { IterYieldsInOrder T }
-    ensures { IfOk result (λ count. AppendsData (IsPieceData T.value piece.now (iter_rest entries.entry) (record { count = count; all = length (iter_rest entries.entry) })) (string_bytes text.old) (string_bytes text.new)) }
+    ensures { IfOk result
+        (λ count. AppendsData (IsPieceData T.value piece.now (iter_rest entries.entry) (record { count = count; all = length (iter_rest entries.entry) }))
+        (string_bytes text.old) (string_bytes text.new)) }
 {
     text.push('[')?;
     let count = push_entries(alloc, &Notation::Json, entries, piece, text)?;
@@ -84,7 +87,8 @@ pub(crate) fn push_entries<T: Listed>(
     text: &mut String,
 ) -> Result<usize, AllocError>
     requires { IterYieldsInOrder T }
-    ensures { IfOk result (λ count. AppendsEntries (size_in notation.now T.value T.line) (text_in notation.now T.value T.line) (FitsIn notation.now T.value) piece.now (iter_rest entries.entry)
+    ensures { IfOk result (λ count. AppendsEntries (size_in notation.now T.value T.line) (text_in notation.now T.value T.line) (FitsIn notation.now T.value)
+        piece.now (iter_rest entries.entry)
         (record { count = count; all = length (iter_rest entries.entry) }) (string_bytes text.old) (string_bytes text.new)) }
 {
     let mut ahead = *piece;
@@ -104,8 +108,10 @@ fn pass_entry<T: Listed>(
     text: &mut String,
 ) -> Result<(), AllocError>
     ensures { OnOk result ((entries : List T) (before : List ℕ) (rest : List T)
-        → IsReached (size_in notation.now T.value T.line) (text_in notation.now T.value T.line) (FitsIn notation.now T.value) piece.now entries before (string_bytes text.old) ahead.old (entry.now ∷ rest)
-        → IsReached (size_in notation.now T.value T.line) (text_in notation.now T.value T.line) (FitsIn notation.now T.value) piece.now entries before (string_bytes text.new) ahead.new rest) }
+        → IsReached (size_in notation.now T.value T.line) (text_in notation.now T.value T.line) (FitsIn notation.now T.value) piece.now entries before
+        (string_bytes text.old) ahead.old (entry.now ∷ rest)
+        → IsReached (size_in notation.now T.value T.line) (text_in notation.now T.value T.line) (FitsIn notation.now T.value) piece.now entries before
+        (string_bytes text.new) ahead.new rest) }
 {
     if ahead.first > 0 {
         ahead.first -= 1;

@@ -107,7 +107,8 @@ pub fn compare_data_piece(
     prefer: Option<&str>,
     piece: &Piece,
 ) -> Result<PieceAnswer, AllocError>
-    ensures { IfOk result (λ answer. IsPieceText (IsComparePiece (option_copied prefer.entry) left.now right.now piece.now answer.outcome) answer.told answer.text.items) }
+    ensures { IfOk result (λ answer. IsPieceText (IsComparePiece (option_copied prefer.entry) left.now right.now piece.now answer.outcome)
+        answer.told answer.text.items) }
 {
     match compare_bytes_with(alloc, left, right, prefer) {
         Ok(found) => Ok(PieceAnswer::without_list(compared(alloc, &found)?)),
@@ -142,7 +143,8 @@ pub fn differences_data_piece(
     prefer: Option<&str>,
     piece: &Piece,
 ) -> Result<PieceAnswer, AllocError>
-    ensures { IfOk result (λ answer. IsPieceText (IsListPiece (option_copied prefer.entry) left.now right.now piece.now answer.outcome) answer.told answer.text.items) }
+    ensures { IfOk result (λ answer. IsPieceText (IsListPiece (option_copied prefer.entry) left.now right.now piece.now answer.outcome)
+        answer.told answer.text.items) }
 {
     match differences_of(alloc, left, right, prefer, piece.first, piece.enough_bytes) {
         Ok(found) => listed(alloc, &found, piece),

@@ -1,7 +1,8 @@
 //! The calls that answer with a piece of a list as lines, as the engines write them.
 
 ghost use Rattle.std.specs.Prelude.{◌≡◌, [], ◌∷◌, map, codes, IfOk, option_copied};
-ghost use Rattle.erd_canon.specs.Words.{listing_outcome, comparison_line, lines_of_side, text_of_lines, IsCheckLines, IsCompareLines, IsFormLines, IsFoundLines, IsListLines, TellsNone, comparison_outcome};
+ghost use Rattle.erd_canon.specs.Words.{listing_outcome, comparison_line, lines_of_side, text_of_lines, IsCheckLines, IsCompareLines, IsFormLines};
+ghost use Rattle.erd_canon.specs.Words.{IsFoundLines, IsListLines, TellsNone, comparison_outcome};
 ghost use Rattle.erd_canon.specs.code.Fronts.{TellsLinesAs};
 ghost use Rattle.erd_canon.specs.code.SideRefusals.{OnSide};
 

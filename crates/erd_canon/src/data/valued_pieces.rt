@@ -2,7 +2,7 @@
 ghost use Rattle.std.specs.Prelude.{ℕ, List, ◌≡◌, ◌∷◌, IfErr, IfOk, OnOk, length, option_copied};
 ghost use Rattle.erd_canon.specs.Words.{listing_outcome, view, RefusedSide};
 ghost use Rattle.erd_canon.specs.BallotAnswers.{AreBothTold};
-ghost use Rattle.erd_canon.specs.ValuedAnswers.{IsValuesPiece, TellsValues};
+ghost use Rattle.erd_canon.specs.ValuedAnswers.{IsValuesList, IsValuesPiece, TellsValues};
 ghost use Rattle.erd_canon.specs.code.Fronts.{AppendsEntries, IsReached};
 ghost use Rattle.erd_canon.specs.code.ValuedTexts.{Anything, TellsEntries, valued_size, valued_text};
 ghost use Rattle.erd_compare.specs.declared.detailed.DetailedDifference.{DetailedDifference};
@@ -46,6 +46,31 @@ pub fn differences_values_piece(
         Ok(answer) => Ok(answer),
         Err(side) => refused_side(alloc, &side, piece),
     }
+}
+
+/// Lists all differences of the bytes of two reports with what the two reports have there, as `differences_values_piece` does.
+///
+/// # Errors
+///
+/// `AllocError` if out of memory. No list in memory is longer than a piece of any size.
+pub(crate) fn differences_values(
+    alloc: Global,
+    left: &[u8],
+    right: &[u8],
+    prefer: Option<&str>,
+) -> Result<PieceAnswer, AllocError>
+    ensures { IfOk result (λ answer. IsValuesList (option_copied prefer.entry) left.now right.now answer.outcome answer.text.items) }
+{
+    let piece = Piece {
+        first: 0,
+        most: usize::MAX,
+        enough_bytes: usize::MAX,
+    };
+    let answer = differences_values_piece(alloc, left, right, prefer, &piece)?;
+    if answer.told.count != answer.told.all {
+        return Err(AllocError);
+    }
+    Ok(answer)
 }
 
 /// Returns the piece of the differences of two reports with their values. The reports are refused for the same reasons, and in

@@ -1,15 +1,17 @@
 //! What the engines that answer with one text write: it is in memory as a whole before.
 
 ghost use Rattle.std.specs.Prelude.{◌≡◌, ◌⊎◌, false, true, map, string_bytes, Err, IfErr, IfOk, OnOk, option_copied};
-ghost use Rattle.erd_canon.specs.Words.{difference_line, listing_lines, listing_outcome, text_of_lines, Appends, IsCheckLine, IsCompareLine, IsListed, IsListLine, IsPairPartWritten, IsPairWritten, IsPartWritten, IsReportPartWritten, IsReportWritten};
+ghost use Rattle.erd_canon.specs.Words.{difference_line, listing_lines, listing_outcome, text_of_lines, Appends, IsCheckLine, IsCompareLine, IsListed};
+ghost use Rattle.erd_canon.specs.Words.{IsListLine, IsPairPartWritten, IsPairWritten, IsPartWritten, IsReportPartWritten, IsReportWritten};
 
 use crate::bytes::differences::differences_of;
 use crate::bytes::refusal::Side;
 use crate::data::check::check_data_with;
-use crate::data::compare::{compare_data_with, differences_data_with, outcome_of};
+use crate::data::compare::{compare_data_with, outcome_of};
 use crate::data::listed::push_entry_line;
+use crate::data::valued_pieces::differences_values;
 use crate::devices::sink::Sink;
-use crate::engines::asked::write_line;
+use crate::engines::asked::{write_line, write_piece_line};
 use crate::engines::outcome::{Outcome, RunFault};
 use crate::engines::write_and_flush::{write_one, write_refusal};
 use erd_compare::DetailedDifference;
@@ -23,11 +25,13 @@ pub(crate) fn write_check_data<O: Sink>(
     prefer: Option<&str>,
 ) -> Result<Outcome, RunFault>
     requires { O.writer.has_failed out.old ≡ false }
-    ensures written { IfOk result (λ outcome. IsReportWritten (IsCheckLine (option_copied prefer.entry)) bytes.now outcome (O.writer.contents out.old) (O.writer.contents out.new)) }
+    ensures written { IfOk result (λ outcome. IsReportWritten (IsCheckLine (option_copied prefer.entry)) bytes.now outcome (O.writer.contents out.old)
+        (O.writer.contents out.new)) }
     ensures flushed { OnOk result (O.writer.is_flushed out.new ≡ true) }
     ensures works { OnOk result (O.writer.has_failed out.new ≡ false) }
     ensures memory { result ≡ Err RunFault.Memory → out.new ≡ out.old }
-    ensures broken { result ≡ Err RunFault.Write → IsReportPartWritten (IsCheckLine (option_copied prefer.entry)) bytes.now (O.writer.contents out.old) (O.writer.contents out.new) }
+    ensures broken { result ≡ Err RunFault.Write → IsReportPartWritten (IsCheckLine (option_copied prefer.entry)) bytes.now (O.writer.contents out.old)
+        (O.writer.contents out.new) }
     ensures write { result ≡ Err RunFault.Write → O.writer.has_failed out.new ≡ true }
     ensures faults { IfErr result (λ fault. (fault ≡ RunFault.Memory) ⊎ (fault ≡ RunFault.Write)) }
 {
@@ -46,7 +50,8 @@ pub(crate) fn write_compare_data<O: Sink>(
     prefer: Option<&str>,
 ) -> Result<Outcome, RunFault>
     requires { O.writer.has_failed out.old ≡ false }
-    ensures written { IfOk result (λ outcome. IsPairWritten (IsCompareLine (option_copied prefer.entry)) left.now right.now outcome (O.writer.contents out.old) (O.writer.contents out.new)) }
+    ensures written { IfOk result (λ outcome. IsPairWritten (IsCompareLine (option_copied prefer.entry)) left.now right.now outcome (O.writer.contents out.old)
+        (O.writer.contents out.new)) }
     ensures flushed { OnOk result (O.writer.is_flushed out.new ≡ true) }
     ensures works { OnOk result (O.writer.has_failed out.new ≡ false) }
     ensures memory { result ≡ Err RunFault.Memory → out.new ≡ out.old }
@@ -61,7 +66,7 @@ pub(crate) fn write_compare_data<O: Sink>(
     }
 }
 
-/// Lists the differences of the bytes of two reports and writes the answer as JSON.
+/// Lists the differences of the bytes of two reports with their values and writes the answer as JSON.
 pub(crate) fn write_differences_data<O: Sink>(
     alloc: Global,
     left: &[u8],
@@ -70,7 +75,8 @@ pub(crate) fn write_differences_data<O: Sink>(
     prefer: Option<&str>,
 ) -> Result<Outcome, RunFault>
     requires { O.writer.has_failed out.old ≡ false }
-    ensures written { IfOk result (λ outcome. IsPairWritten (IsListLine (option_copied prefer.entry)) left.now right.now outcome (O.writer.contents out.old) (O.writer.contents out.new)) }
+    ensures written { IfOk result (λ outcome. IsPairWritten (IsListLine (option_copied prefer.entry)) left.now right.now outcome (O.writer.contents out.old)
+        (O.writer.contents out.new)) }
     ensures flushed { OnOk result (O.writer.is_flushed out.new ≡ true) }
     ensures works { OnOk result (O.writer.has_failed out.new ≡ false) }
     ensures memory { result ≡ Err RunFault.Memory → out.new ≡ out.old }
@@ -79,8 +85,8 @@ pub(crate) fn write_differences_data<O: Sink>(
     ensures write { result ≡ Err RunFault.Write → O.writer.has_failed out.new ≡ true }
     ensures faults { IfErr result (λ fault. (fault ≡ RunFault.Memory) ⊎ (fault ≡ RunFault.Write)) }
 {
-    match differences_data_with(alloc, left, right, prefer) {
-        Ok(answer) => write_line(answer, out),
+    match differences_values(alloc, left, right, prefer) {
+        Ok(answer) => write_piece_line(answer, out),
         Err(_) => Err(RunFault::Memory),
     }
 }
@@ -94,7 +100,8 @@ pub(crate) fn write_listed<O: Sink>(
     prefer: Option<&str>,
 ) -> Result<Outcome, RunFault>
     requires { O.writer.has_failed out.old ≡ false }
-    ensures written { IfOk result (λ outcome. IsPairWritten (IsListed (option_copied prefer.entry)) left.now right.now outcome (O.writer.contents out.old) (O.writer.contents out.new)) }
+    ensures written { IfOk result (λ outcome. IsPairWritten (IsListed (option_copied prefer.entry)) left.now right.now outcome (O.writer.contents out.old)
+        (O.writer.contents out.new)) }
     ensures flushed { OnOk result (O.writer.is_flushed out.new ≡ true) }
     ensures works { OnOk result (O.writer.has_failed out.new ≡ false) }
     ensures memory { result ≡ Err RunFault.Memory → out.new ≡ out.old }
@@ -120,7 +127,8 @@ fn write_found<O: Sink>(
 ) -> Result<Outcome, RunFault>
     requires { O.writer.has_failed out.old ≡ false }
     ensures outcome { IfOk result (λ outcome. outcome ≡ listing_outcome found.now) }
-    ensures wrote { OnOk result (Appends (O.writer.contents out.old) (O.writer.contents out.new) (text_of_lines (listing_lines (map (λ d. d.difference) found.now)))) }
+    ensures wrote { OnOk result (Appends (O.writer.contents out.old) (O.writer.contents out.new)
+        (text_of_lines (listing_lines (map (λ d. d.difference) found.now)))) }
     ensures flushed { OnOk result (O.writer.is_flushed out.new ≡ true) }
     ensures works { OnOk result (O.writer.has_failed out.new ≡ false) }
     ensures memory { result ≡ Err RunFault.Memory → out.new ≡ out.old }

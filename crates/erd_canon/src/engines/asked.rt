@@ -1,10 +1,12 @@
 //! The engines that answer with one text: what is read for each command, and what is written.
 
 ghost use Rattle.std.specs.Prelude.{◌≡◌, ◌⊎◌, ◌∷◌, ◌++◌, [], false, true, string_bytes, Err, IfErr, IfOk, OnOk, option_copied};
-ghost use Rattle.erd_canon.specs.Words.{between, Appends, IsPairPartWritten, IsPairRun, IsPairWritten, IsPartWritten, IsReportPartWritten, IsReportRun, IsReportWritten};
+ghost use Rattle.erd_canon.specs.Words.{between, Appends, IsPairPartWritten, IsPairRun, IsPairWritten, IsPartWritten, IsReportPartWritten, IsReportRun};
+ghost use Rattle.erd_canon.specs.Words.{IsReportWritten};
 ghost use Rattle.erd_canon.specs.AskedCommands.{pair_answers, report_answers};
 
 use crate::data::check::Answer;
+use crate::data::piece::PieceAnswer;
 use crate::devices::sink::Sink;
 use crate::devices::source::{Source, read_all};
 use crate::engines::answers::{
@@ -44,7 +46,8 @@ pub enum PairCommand {
     CompareData,
     /// The line `same`, or a line for each difference in what the reports mean, in rising order.
     Differences,
-    /// All differences as JSON: the text that `differences_data_with` answers.
+    /// All differences as JSON, with what the two reports have there: the text that `differences_values_piece` answers for the
+    /// whole list.
     DifferencesData,
     /// The line `same ballots`, or a line for each style whose ballots are not the same, in the order of
     /// `erd_shown::differing_ballots`.
@@ -81,7 +84,8 @@ pub fn run_report<S: Source, O: Sink>(
 ) -> Result<Outcome, RunFault>
     requires reader_works { S.reader.has_failed reader.old ≡ false }
     requires out_works { O.writer.has_failed out.old ≡ false }
-    ensures { IsReportRun S.reader O.writer (report_answers command (option_copied prefer.entry)) result (between reader.old reader.new) (between out.old out.new) }
+    ensures { IsReportRun S.reader O.writer (report_answers command (option_copied prefer.entry)) result (between reader.old reader.new)
+        (between out.old out.new) }
 {
     let bytes = read_all(alloc, reader)?;
     write_report(alloc, bytes.as_slice(), out, command, prefer)
@@ -96,11 +100,13 @@ fn write_report<O: Sink>(
     prefer: Option<&str>,
 ) -> Result<Outcome, RunFault>
     requires { O.writer.has_failed out.old ≡ false }
-    ensures written { IfOk result (λ outcome. IsReportWritten (report_answers command (option_copied prefer.entry)) bytes.now outcome (O.writer.contents out.old) (O.writer.contents out.new)) }
+    ensures written { IfOk result (λ outcome. IsReportWritten (report_answers command (option_copied prefer.entry)) bytes.now outcome
+        (O.writer.contents out.old) (O.writer.contents out.new)) }
     ensures flushed { OnOk result (O.writer.is_flushed out.new ≡ true) }
     ensures works { OnOk result (O.writer.has_failed out.new ≡ false) }
     ensures memory { result ≡ Err RunFault.Memory → out.new ≡ out.old }
-    ensures broken { result ≡ Err RunFault.Write → IsReportPartWritten (report_answers command (option_copied prefer.entry)) bytes.now (O.writer.contents out.old) (O.writer.contents out.new) }
+    ensures broken { result ≡ Err RunFault.Write → IsReportPartWritten (report_answers command (option_copied prefer.entry)) bytes.now
+        (O.writer.contents out.old) (O.writer.contents out.new) }
     ensures write { result ≡ Err RunFault.Write → O.writer.has_failed out.new ≡ true }
     ensures faults { IfErr result (λ fault. (fault ≡ RunFault.Memory) ⊎ (fault ≡ RunFault.Write)) }
 {
@@ -161,7 +167,8 @@ fn write_pair<O: Sink>(
     prefer: Option<&str>,
 ) -> Result<Outcome, RunFault>
     requires { O.writer.has_failed out.old ≡ false }
-    ensures written { IfOk result (λ outcome. IsPairWritten (pair_answers command (option_copied prefer.entry)) left.now right.now outcome (O.writer.contents out.old) (O.writer.contents out.new)) }
+    ensures written { IfOk result (λ outcome. IsPairWritten (pair_answers command (option_copied prefer.entry)) left.now right.now outcome
+        (O.writer.contents out.old) (O.writer.contents out.new)) }
     ensures flushed { OnOk result (O.writer.is_flushed out.new ≡ true) }
     ensures works { OnOk result (O.writer.has_failed out.new ≡ false) }
     ensures memory { result ≡ Err RunFault.Memory → out.new ≡ out.old }
@@ -198,4 +205,30 @@ pub(crate) fn write_line<O: Sink>(answer: Answer, out: &mut O) -> Result<Outcome
     let Answer { outcome, mut text } = answer;
     text.push('\n')?;
     write_one(out, outcome, text.as_bytes())
+}
+
+/// Writes the text of an answer with a list and a line feed, then flushes, and returns the outcome.
+pub(crate) fn write_piece_line<O: Sink>(
+    answer: PieceAnswer,
+    out: &mut O,
+) -> Result<Outcome, RunFault>
+    requires { O.writer.has_failed out.old ≡ false }
+    ensures outcome { IfOk result (λ outcome. outcome ≡ answer.outcome) }
+    ensures wrote { OnOk result (Appends (O.writer.contents out.old) (O.writer.contents out.new) (answer.text.items ++ 10 ∷ [])) }
+    ensures flushed { OnOk result (O.writer.is_flushed out.new ≡ true) }
+    ensures works { OnOk result (O.writer.has_failed out.new ≡ false) }
+    ensures memory { result ≡ Err RunFault.Memory → out.new ≡ out.old }
+    ensures broken { result ≡ Err RunFault.Write → IsPartWritten (O.writer.contents out.old) (O.writer.contents out.new) (answer.text.items ++ 10 ∷ []) }
+    ensures write { result ≡ Err RunFault.Write → O.writer.has_failed out.new ≡ true }
+    ensures faults { IfErr result (λ fault. (fault ≡ RunFault.Memory) ⊎ (fault ≡ RunFault.Write)) }
+{
+    let PieceAnswer {
+        outcome,
+        mut text,
+        told: _,
+    } = answer;
+    match text.push(b'\n') {
+        Ok(()) => write_one(out, outcome, text.as_slice()),
+        Err(_) => Err(RunFault::Memory),
+    }
 }

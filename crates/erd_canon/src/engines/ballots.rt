@@ -1,7 +1,8 @@
 //! What the engines for ballots write.
 
 ghost use Rattle.std.specs.Prelude.{◌≡◌, ◌⊎◌, false, true, Err, IfErr, IfOk, OnOk, option_copied};
-ghost use Rattle.erd_canon.specs.Words.{IsBallotDifferenceLines, IsBallotDifferencesLine, IsBallotLines, IsBallotsLine, IsPairPartWritten, IsPairWritten, IsReportPartWritten, IsReportWritten};
+ghost use Rattle.erd_canon.specs.Words.{IsBallotDifferenceLines, IsBallotDifferencesLine, IsBallotLines, IsBallotsLine, IsPairPartWritten, IsPairWritten};
+ghost use Rattle.erd_canon.specs.Words.{IsReportPartWritten, IsReportWritten};
 
 use crate::bytes::refusal::Side;
 use crate::data::ballot_pairs::{PairForm, ballot_differences_data_with, ballots_of_both};
@@ -20,11 +21,13 @@ pub(crate) fn write_ballots<O: Sink>(
     prefer: Option<&str>,
 ) -> Result<Outcome, RunFault>
     requires { O.writer.has_failed out.old ≡ false }
-    ensures written { IfOk result (λ outcome. IsReportWritten (IsBallotLines (option_copied prefer.entry)) bytes.now outcome (O.writer.contents out.old) (O.writer.contents out.new)) }
+    ensures written { IfOk result (λ outcome. IsReportWritten (IsBallotLines (option_copied prefer.entry)) bytes.now outcome (O.writer.contents out.old)
+        (O.writer.contents out.new)) }
     ensures flushed { OnOk result (O.writer.is_flushed out.new ≡ true) }
     ensures works { OnOk result (O.writer.has_failed out.new ≡ false) }
     ensures memory { result ≡ Err RunFault.Memory → out.new ≡ out.old }
-    ensures broken { result ≡ Err RunFault.Write → IsReportPartWritten (IsBallotLines (option_copied prefer.entry)) bytes.now (O.writer.contents out.old) (O.writer.contents out.new) }
+    ensures broken { result ≡ Err RunFault.Write → IsReportPartWritten (IsBallotLines (option_copied prefer.entry)) bytes.now (O.writer.contents out.old)
+        (O.writer.contents out.new) }
     ensures write { result ≡ Err RunFault.Write → O.writer.has_failed out.new ≡ true }
     ensures faults { IfErr result (λ fault. (fault ≡ RunFault.Memory) ⊎ (fault ≡ RunFault.Write)) }
 {
@@ -42,11 +45,13 @@ pub(crate) fn write_ballots_data<O: Sink>(
     prefer: Option<&str>,
 ) -> Result<Outcome, RunFault>
     requires { O.writer.has_failed out.old ≡ false }
-    ensures written { IfOk result (λ outcome. IsReportWritten (IsBallotsLine (option_copied prefer.entry)) bytes.now outcome (O.writer.contents out.old) (O.writer.contents out.new)) }
+    ensures written { IfOk result (λ outcome. IsReportWritten (IsBallotsLine (option_copied prefer.entry)) bytes.now outcome (O.writer.contents out.old)
+        (O.writer.contents out.new)) }
     ensures flushed { OnOk result (O.writer.is_flushed out.new ≡ true) }
     ensures works { OnOk result (O.writer.has_failed out.new ≡ false) }
     ensures memory { result ≡ Err RunFault.Memory → out.new ≡ out.old }
-    ensures broken { result ≡ Err RunFault.Write → IsReportPartWritten (IsBallotsLine (option_copied prefer.entry)) bytes.now (O.writer.contents out.old) (O.writer.contents out.new) }
+    ensures broken { result ≡ Err RunFault.Write → IsReportPartWritten (IsBallotsLine (option_copied prefer.entry)) bytes.now (O.writer.contents out.old)
+        (O.writer.contents out.new) }
     ensures write { result ≡ Err RunFault.Write → O.writer.has_failed out.new ≡ true }
     ensures faults { IfErr result (λ fault. (fault ≡ RunFault.Memory) ⊎ (fault ≡ RunFault.Write)) }
 {
@@ -65,7 +70,8 @@ pub(crate) fn write_ballot_differences<O: Sink>(
     prefer: Option<&str>,
 ) -> Result<Outcome, RunFault>
     requires { O.writer.has_failed out.old ≡ false }
-    ensures written { IfOk result (λ outcome. IsPairWritten (IsBallotDifferenceLines (option_copied prefer.entry)) left.now right.now outcome (O.writer.contents out.old) (O.writer.contents out.new)) }
+    ensures written { IfOk result (λ outcome. IsPairWritten (IsBallotDifferenceLines (option_copied prefer.entry)) left.now right.now outcome
+        (O.writer.contents out.old) (O.writer.contents out.new)) }
     ensures flushed { OnOk result (O.writer.is_flushed out.new ≡ true) }
     ensures works { OnOk result (O.writer.has_failed out.new ≡ false) }
     ensures memory { result ≡ Err RunFault.Memory → out.new ≡ out.old }
@@ -91,7 +97,8 @@ pub(crate) fn write_ballot_differences_data<O: Sink>(
     prefer: Option<&str>,
 ) -> Result<Outcome, RunFault>
     requires { O.writer.has_failed out.old ≡ false }
-    ensures written { IfOk result (λ outcome. IsPairWritten (IsBallotDifferencesLine (option_copied prefer.entry)) left.now right.now outcome (O.writer.contents out.old) (O.writer.contents out.new)) }
+    ensures written { IfOk result (λ outcome. IsPairWritten (IsBallotDifferencesLine (option_copied prefer.entry)) left.now right.now outcome
+        (O.writer.contents out.old) (O.writer.contents out.new)) }
     ensures flushed { OnOk result (O.writer.is_flushed out.new ≡ true) }
     ensures works { OnOk result (O.writer.has_failed out.new ≡ false) }
     ensures memory { result ≡ Err RunFault.Memory → out.new ≡ out.old }

@@ -1,5 +1,6 @@
 ghost use Rattle.std.specs.Prelude.{◌≡◌, ◌++◌, ◌∷◌, [], ◌↔◌, ◌<◌, map, codes, decimal, false, true, IsErr, IfOk, IsTrue, OnOk, OnErr};
-ghost use Rattle.erd_canon.specs.Words.{fault_line, reason_text, escaped_byte, escaped_name, pointer_text, step_text, lines_of_side, text_of_lines, IsPartWritten, Appends};
+ghost use Rattle.erd_canon.specs.Words.{fault_line, reason_text, escaped_byte, escaped_name, pointer_text, step_text, lines_of_side, text_of_lines};
+ghost use Rattle.erd_canon.specs.Words.{IsPartWritten, Appends};
 ghost use Rattle.erd_canon.specs.code.Pending.{IsFrontMoved, IsMoved};
 
 use crate::devices::sink::Sink;
@@ -33,7 +34,8 @@ pub(crate) fn write_lines<O: Sink>(
     faults: &FaultList,
 ) -> Result<(), Failed>
     requires { O.writer.has_failed out.old ≡ false }
-    ensures written { OnOk result (Appends (O.writer.contents out.old) (O.writer.contents out.new) (text_of_lines (lines_of_side side.now (map fault_line faults.now)))) }
+    ensures written { OnOk result (Appends (O.writer.contents out.old) (O.writer.contents out.new)
+        (text_of_lines (lines_of_side side.now (map fault_line faults.now)))) }
     ensures part { IsPartWritten (O.writer.contents out.old) (O.writer.contents out.new) (text_of_lines (lines_of_side side.now (map fault_line faults.now))) }
     ensures failed { IsErr result ↔ (O.writer.has_failed out.new ≡ true) }
     ensures works { OnOk result (O.writer.has_failed out.new ≡ false) }
@@ -74,8 +76,10 @@ fn write_line<O: Sink>(
     fault: &Fault,
 ) -> Result<(), Failed>
     requires { O.writer.has_failed out.old ≡ false }
-    ensures moved { OnOk result (IsMoved (O.writer.contents out.old) (O.writer.contents out.new) (buffer.old.items ++ ((side.now ++ fault_line fault.now) ++ 10 ∷ [])) buffer.new.items) }
-    ensures part { OnErr result (IsFrontMoved (O.writer.contents out.old) (O.writer.contents out.new) (buffer.old.items ++ ((side.now ++ fault_line fault.now) ++ 10 ∷ []))) }
+    ensures moved { OnOk result (IsMoved (O.writer.contents out.old) (O.writer.contents out.new)
+        (buffer.old.items ++ ((side.now ++ fault_line fault.now) ++ 10 ∷ [])) buffer.new.items) }
+    ensures part { OnErr result (IsFrontMoved (O.writer.contents out.old) (O.writer.contents out.new)
+        (buffer.old.items ++ ((side.now ++ fault_line fault.now) ++ 10 ∷ []))) }
     ensures works { OnOk result (O.writer.has_failed out.new ≡ false) }
     ensures failed { OnErr result (O.writer.has_failed out.new ≡ true) }
     ensures counted { O.writer.flushes out.new ≡ O.writer.flushes out.old }
@@ -102,7 +106,8 @@ fn write_fault<O: Sink>(out: &mut O, buffer: &mut Vec<u8>, fault: &Fault) -> Res
 /// Writes the words of a reason.
 fn write_reason<O: Sink>(out: &mut O, buffer: &mut Vec<u8>, reason: &Reason) -> Result<(), Failed>
     requires { O.writer.has_failed out.old ≡ false }
-    ensures moved { OnOk result (IsMoved (O.writer.contents out.old) (O.writer.contents out.new) (buffer.old.items ++ reason_text reason.now) buffer.new.items) }
+    ensures moved { OnOk result (IsMoved (O.writer.contents out.old) (O.writer.contents out.new)
+        (buffer.old.items ++ reason_text reason.now) buffer.new.items) }
     ensures part { OnErr result (IsFrontMoved (O.writer.contents out.old) (O.writer.contents out.new) (buffer.old.items ++ reason_text reason.now)) }
     ensures works { OnOk result (O.writer.has_failed out.new ≡ false) }
     ensures failed { OnErr result (O.writer.has_failed out.new ≡ true) }
@@ -115,7 +120,8 @@ fn write_reason<O: Sink>(out: &mut O, buffer: &mut Vec<u8>, reason: &Reason) -> 
 /// Writes the JSON Pointer of a place.
 fn write_place<O: Sink>(out: &mut O, buffer: &mut Vec<u8>, place: &Place) -> Result<(), Failed>
     requires { O.writer.has_failed out.old ≡ false }
-    ensures moved { OnOk result (IsMoved (O.writer.contents out.old) (O.writer.contents out.new) (buffer.old.items ++ pointer_text place.now) buffer.new.items) }
+    ensures moved { OnOk result (IsMoved (O.writer.contents out.old) (O.writer.contents out.new)
+        (buffer.old.items ++ pointer_text place.now) buffer.new.items) }
     ensures part { OnErr result (IsFrontMoved (O.writer.contents out.old) (O.writer.contents out.new) (buffer.old.items ++ pointer_text place.now)) }
     ensures works { OnOk result (O.writer.has_failed out.new ≡ false) }
     ensures failed { OnErr result (O.writer.has_failed out.new ≡ true) }
@@ -130,7 +136,8 @@ fn write_place<O: Sink>(out: &mut O, buffer: &mut Vec<u8>, place: &Place) -> Res
 /// Writes a step as a JSON Pointer has it, after a `/`.
 fn write_step<O: Sink>(out: &mut O, buffer: &mut Vec<u8>, step: &Step) -> Result<(), Failed>
     requires { O.writer.has_failed out.old ≡ false }
-    ensures moved { OnOk result (IsMoved (O.writer.contents out.old) (O.writer.contents out.new) (buffer.old.items ++ (codes "/" ++ step_text step.now)) buffer.new.items) }
+    ensures moved { OnOk result (IsMoved (O.writer.contents out.old) (O.writer.contents out.new)
+        (buffer.old.items ++ (codes "/" ++ step_text step.now)) buffer.new.items) }
     ensures part { OnErr result (IsFrontMoved (O.writer.contents out.old) (O.writer.contents out.new) (buffer.old.items ++ (codes "/" ++ step_text step.now))) }
     ensures works { OnOk result (O.writer.has_failed out.new ≡ false) }
     ensures failed { OnErr result (O.writer.has_failed out.new ≡ true) }

@@ -1,8 +1,9 @@
 //! The engines that prepare a report. What they write is in memory as a whole before any of it is written.
 
-ghost use Rattle.std.specs.Prelude.{◌≡◌, ◌⊎◌, ◌<◌, length, false, true, string_bytes, Err, IfErr, IfOk, OnOk, option_copied, option_map};
-ghost use Rattle.erd_canon.specs.Words.{asked_steps, between, AreStepsListed, AreTextsPartWritten, AreTextsWith, AreTextsWritten, IsPreparationTold, IsPreparedAs, IsTextsRun};
-ghost use Rattle.erd_canon.specs.code.PrepareCommands.{prepare_answers};
+ghost use Rattle.std.specs.Prelude.{◌≡◌, ◌⊎◌, ◌++◌, [], ◌∷◌, ◌<◌, codes, length, false, true, string_bytes, Err, IfErr, IfOk, OnOk, option_copied, option_map};
+ghost use Rattle.erd_canon.specs.Words.{asked_steps, between, text_of_lines, AreStepsListed, AreTextsPartWritten, AreTextsWith, AreTextsWritten};
+ghost use Rattle.erd_canon.specs.Words.{IsPreparationTold, IsPreparedAs, IsTextsRun};
+ghost use Rattle.erd_canon.specs.code.PrepareCommands.{prepare_answers, unmarked_answers, IsRestBehindMark};
 
 use crate::devices::sink::Sink;
 use crate::devices::source::{Source, read_all};
@@ -42,9 +43,12 @@ pub fn steps_asked(alloc: Global, words: Option<&str>) -> Result<Option<Vec<Step
 /// The prepared report is written as compact JSON with no line end, the members of each object in the order of their names. To
 /// `err` go a line such as `numbers: 3 changed` if reading changes the texts of numbers, a line for each step that changed or
 /// left something, such as `codes: 2 changed, 1 left`, and then, if the prepared report is refused, the lines that
-/// `run_check_with` writes for it. It is written all the same, and the outcome is `Bad`. For bytes that are not JSON, it writes
-/// the line `not JSON` to `err`. Each line ends with one line feed. A report may have at most 67,108,864 bytes. The devices must
-/// not have failed before the call. After a failure, the run reads, writes and flushes nothing more.
+/// `run_check_with` writes for it, and a line for each reason: which steps may fix it, and what to ask the vendor for. It is
+/// written all the same, and the outcome is `Bad`. For bytes that are not JSON, it writes the line `not JSON` to `err`. A byte
+/// order mark before the report is taken off, and `err` then begins with a line that says so.
+///
+/// Each line ends with one line feed. A report may have at most 67,108,864 bytes. The devices must not have failed before the
+/// call. After a failure, the run reads, writes and flushes nothing more.
 ///
 /// # Errors
 ///
@@ -179,7 +183,8 @@ fn write_asked<O: Sink, E: Sink>(
         → (O.writer.has_failed out.new ≡ true) ⊎ (E.writer.has_failed err.new ≡ true) }
     ensures faults { IfErr result (λ fault. (fault ≡ RunFault.Memory) ⊎ (fault ≡ RunFault.Write)) }
     ensures out_first { O.writer.has_failed out.new ≡ true → O.writer.flushes out.new ≡ O.writer.flushes out.old → err.new ≡ err.old }
-    ensures writes_first { E.writer.has_failed err.new ≡ true → E.writer.flushes err.new ≡ E.writer.flushes err.old → O.writer.flushes out.new ≡ O.writer.flushes out.old }
+    ensures writes_first { E.writer.has_failed err.new ≡ true → E.writer.flushes err.new ≡ E.writer.flushes err.old → O.writer.flushes out.new
+        ≡ O.writer.flushes out.old }
     ensures flush_order { (E.writer.flushes err.new ≡ E.writer.flushes err.old) ⊎ (O.writer.is_flushed out.new ≡ true) }
     ensures out_needed { O.writer.has_failed out.new ≡ true → O.writer.flushes out.new ≡ O.writer.flushes out.old
         → AreTextsWith (prepare_answers asked.entry.0 asked.entry.1.now (option_copied asked.entry.2)) (λ out_text _. 0 < length out_text) bytes.now }
@@ -202,7 +207,33 @@ fn texts_of(
     bytes: &[u8],
     asked: (PrepareCommand, &[StepName], Option<&str>),
 ) -> Result<Texts, AllocError>
-    ensures { IfOk result (λ texts. prepare_answers asked.entry.0 asked.entry.1.now (option_copied asked.entry.2) bytes.now texts.outcome texts.out.items (string_bytes texts.err)) }
+    ensures { IfOk result (λ texts. prepare_answers asked.entry.0 asked.entry.1.now (option_copied asked.entry.2) bytes.now texts.outcome texts.out.items
+        (string_bytes texts.err)) }
+{
+    match behind_mark(bytes) {
+        Some(rest) => {
+            let texts = unmarked_texts(alloc, rest, asked)?;
+            with_mark_told(alloc, texts)
+        }
+        None => unmarked_texts(alloc, bytes, asked),
+    }
+}
+
+// Returns what follows the byte order mark that the bytes begin with, if they do.
+fn behind_mark(bytes: &[u8]) -> Option<&[u8]>
+    ensures { IsRestBehindMark bytes.now result }
+{
+    bytes.strip_prefix(&[0xef, 0xbb, 0xbf])
+}
+
+// Returns what the command answers for bytes with no byte order mark before them.
+fn unmarked_texts(
+    alloc: Global,
+    bytes: &[u8],
+    asked: (PrepareCommand, &[StepName], Option<&str>),
+) -> Result<Texts, AllocError>
+    ensures { IfOk result (λ texts. unmarked_answers asked.entry.0 asked.entry.1.now (option_copied asked.entry.2) bytes.now texts.outcome texts.out.items
+        (string_bytes texts.err)) }
 {
     let (command, chosen, prefer) = asked;
     match command {
@@ -210,4 +241,19 @@ fn texts_of(
         PrepareCommand::TryAll => listed_texts(alloc, bytes),
         PrepareCommand::Tell => told_texts(alloc, bytes, chosen),
     }
+}
+
+// Returns the texts with a line before the errors which says that a byte order mark was taken off.
+fn with_mark_told(alloc: Global, texts: Texts) -> Result<Texts, AllocError>
+    ensures outcome { IfOk result (λ told. told.outcome ≡ texts.outcome) }
+    ensures out { IfOk result (λ told. told.out.items ≡ texts.out.items) }
+    ensures err { IfOk result (λ told. string_bytes told.err ≡ text_of_lines (codes "byte order mark: taken off" ∷ []) ++ string_bytes texts.err) }
+{
+    let mut err = String::from_str(alloc, "byte order mark: taken off\n")?;
+    err.push_str(&texts.err)?;
+    Ok(Texts {
+        outcome: texts.outcome,
+        out: texts.out,
+        err,
+    })
 }

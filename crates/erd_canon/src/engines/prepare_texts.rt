@@ -5,12 +5,15 @@ ghost use Rattle.std.specs.List.{flat_map};
 ghost use Rattle.erd_prepare.specs.Steps.{IsNamedStepDone};
 ghost use Rattle.erd_prepare.specs.declared.engine.Done.{Done};
 ghost use Rattle.erd_prepare.specs.declared.step_name.TheConstants.{STEPS};
-ghost use Rattle.erd_canon.specs.Words.{count_lines, done_lines, fault_line, grouped_text, text_of_lines, tried_lines, view, AreFileTexts, AreNotJsonTexts, AreStepsListed, AreStepsTried, AreToldTexts, AreTriedTexts, IsJudged, IsPreparationTold, IsPreparedAs};
+ghost use Rattle.erd_canon.specs.Words.{count_lines, done_lines, fault_line, grouped_text, remedy_lines, text_of_lines, tried_lines, view};
+ghost use Rattle.erd_canon.specs.Words.{AreFileTexts, AreNotJsonTexts, AreStepsTried, AreToldTexts, AreTriedTexts, AreUnmarkedSteps, IsJudged};
+ghost use Rattle.erd_canon.specs.Words.{IsUnmarkedPrepared, IsUnmarkedTold};
 
 use crate::bytes::acceptance::{Input, check_bytes_with};
 use crate::bytes::refusal::Refusal;
 use crate::data::listed::push_entry_line;
 use crate::engines::outcome::Outcome;
+use crate::engines::remedies::push_remedies;
 use erd_prepare::{
     Done, Others, PrepareError, PreparedBytes, STEPS, StepDone, StepGroup, StepName, do_step,
     prepare_bytes,
@@ -34,7 +37,8 @@ pub(crate) fn prepared_texts(
     chosen: &[StepName],
     prefer: Option<&str>,
 ) -> Result<Texts, AllocError>
-    ensures { IfOk result (λ texts. IsPreparedAs (option_copied prefer.entry) chosen.now bytes.now texts.outcome texts.out.items (string_bytes texts.err)) }
+    ensures { IfOk result (λ texts. IsUnmarkedPrepared (option_copied prefer.entry) chosen.now bytes.now texts.outcome texts.out.items
+        (string_bytes texts.err)) }
 {
     match prepare_bytes(alloc, bytes, chosen, Others::Untold) {
         Ok(file) => file_texts(alloc, file, prefer),
@@ -95,7 +99,7 @@ fn count_line(alloc: Global, name: &str, changed: usize, left: usize) -> Result<
     }
 }
 
-// Checks the prepared report, and appends the lines that say why it is refused, if it is.
+// Checks the prepared report, and appends the lines that say why it is refused and what may be done, if it is.
 fn push_judgement(
     alloc: Global,
     bytes: &[u8],
@@ -108,7 +112,7 @@ fn push_judgement(
     match check_bytes_with(alloc, bytes, prefer) {
         Ok(()) => Ok(Outcome::Good),
         Err(Refusal::Faults(faults)) => {
-            push_faults(alloc, &faults, text)?;
+            push_refused(alloc, &faults, text)?;
             Ok(Outcome::Bad)
         }
         Err(Refusal::NotJson) => {
@@ -117,6 +121,14 @@ fn push_judgement(
         }
         Err(Refusal::Memory) => Err(AllocError),
     }
+}
+
+// Appends a line for each fault, and then what may be done about them.
+fn push_refused(alloc: Global, faults: &FaultList, text: &mut String) -> Result<(), AllocError>
+    ensures { OnOk result (string_bytes text.new ≡ string_bytes text.old ++ text_of_lines (map fault_line faults.now ++ remedy_lines faults.now)) }
+{
+    push_faults(alloc, faults, text)?;
+    push_remedies(alloc, faults, text)
 }
 
 // Appends a line for each fault.
@@ -142,7 +154,7 @@ fn not_json(alloc: Global) -> Result<Texts, AllocError>
 
 /// Tries each step on the report in the bytes.
 pub(crate) fn listed_texts(alloc: Global, bytes: &[u8]) -> Result<Texts, AllocError>
-    ensures { IfOk result (λ texts. AreStepsListed bytes.now texts.outcome texts.out.items (string_bytes texts.err)) }
+    ensures { IfOk result (λ texts. AreUnmarkedSteps bytes.now texts.outcome texts.out.items (string_bytes texts.err)) }
 {
     match bytes.into_tree(alloc) {
         Ok(report) => tried_texts(alloc, &report),
@@ -181,7 +193,8 @@ fn push_tried(
     report: &Value,
     text: &mut String,
 ) -> Result<(), AllocError>
-    ensures { OnOk result ((done : Done) × IsNamedStepDone step (view report.now) done × (string_bytes text.new ≡ string_bytes text.old ++ text_of_lines (tried_lines step done))) }
+    ensures { OnOk result ((done : Done) × IsNamedStepDone step (view report.now) done
+        × (string_bytes text.new ≡ string_bytes text.old ++ text_of_lines (tried_lines step done))) }
 {
     let done = do_step(alloc, step, report)?;
     push_done(alloc, step, &done, text)
@@ -214,7 +227,7 @@ pub(crate) fn told_texts(
     bytes: &[u8],
     chosen: &[StepName],
 ) -> Result<Texts, AllocError>
-    ensures { IfOk result (λ texts. IsPreparationTold chosen.now bytes.now texts.outcome texts.out.items (string_bytes texts.err)) }
+    ensures { IfOk result (λ texts. IsUnmarkedTold chosen.now bytes.now texts.outcome texts.out.items (string_bytes texts.err)) }
 {
     match prepare_bytes(alloc, bytes, chosen, Others::Told) {
         Ok(file) => told_line(alloc, file),

@@ -1,5 +1,6 @@
 ghost use Rattle.std.specs.Prelude.{ℕ, List, ◌≡◌, ◌⊎◌, false, true, Err, IfErr, IfOk, OnOk, None, option_copied};
-ghost use Rattle.erd_canon.specs.Words.{between, IsCanonRun, IsCheckRun, IsCompareRun, IsRefusal, IsSomeReport, IsAnswerWritten, IsAnswerPartWritten, IsCheckWritten, IsCheckPartWritten, IsCompareWritten, IsComparePartWritten};
+ghost use Rattle.erd_canon.specs.Words.{between, IsCanonRun, IsCheckRun, IsCompareRun, IsRefusal, IsSomeReport, IsAnswerWritten, IsAnswerPartWritten};
+ghost use Rattle.erd_canon.specs.Words.{IsCheckWritten, IsCheckPartWritten, IsCompareWritten, IsComparePartWritten};
 
 use crate::bytes::acceptance::check_input;
 use crate::bytes::canonical::canonical_of_input;
@@ -113,11 +114,13 @@ fn write_checked<O: Sink, D: Disposal>(
     disposal: &D,
 ) -> Result<Outcome, RunFault>
     requires { O.writer.has_failed out.old ≡ false }
-    ensures written { IfOk result (λ outcome. IsCheckWritten (option_copied prefer.entry) bytes.items outcome (O.writer.contents out.old) (O.writer.contents out.new)) }
+    ensures written { IfOk result (λ outcome. IsCheckWritten (option_copied prefer.entry) bytes.items outcome (O.writer.contents out.old)
+        (O.writer.contents out.new)) }
     ensures flushed { OnOk result (O.writer.is_flushed out.new ≡ true) }
     ensures works { OnOk result (O.writer.has_failed out.new ≡ false) }
     ensures memory { result ≡ Err RunFault.Memory → out.new ≡ out.old }
-    ensures broken { result ≡ Err RunFault.Write → IsCheckPartWritten (option_copied prefer.entry) bytes.items (O.writer.contents out.old) (O.writer.contents out.new) }
+    ensures broken { result ≡ Err RunFault.Write → IsCheckPartWritten (option_copied prefer.entry) bytes.items (O.writer.contents out.old)
+        (O.writer.contents out.new) }
     ensures write { result ≡ Err RunFault.Write → O.writer.has_failed out.new ≡ true }
     ensures faults { IfErr result (λ fault. (fault ≡ RunFault.Memory) ⊎ (fault ≡ RunFault.Write)) }
 {
@@ -241,21 +244,26 @@ fn write_answer<O: Sink, E: Sink, D: Disposal>(
 ) -> Result<Outcome, RunFault>
     requires out_works { O.writer.has_failed out.old ≡ false }
     requires err_works { E.writer.has_failed err.old ≡ false }
-    ensures written { IfOk result (λ outcome. IsAnswerWritten (option_copied prefer.entry) bytes.items outcome (O.writer.contents out.old) (O.writer.contents out.new)
+    ensures written { IfOk result (λ outcome. IsAnswerWritten (option_copied prefer.entry) bytes.items outcome (O.writer.contents out.old)
+        (O.writer.contents out.new)
         (E.writer.contents err.old) (E.writer.contents err.new)) }
     ensures flushed { OnOk result ((O.writer.is_flushed out.new ≡ true) × (E.writer.is_flushed err.new ≡ true)) }
     ensures works { OnOk result ((O.writer.has_failed out.new ≡ false) × (E.writer.has_failed err.new ≡ false)) }
     ensures memory { result ≡ Err RunFault.Memory → (out.new ≡ out.old) × (err.new ≡ err.old) }
-    ensures broken { result ≡ Err RunFault.Write → IsAnswerPartWritten (option_copied prefer.entry) bytes.items (O.writer.contents out.old) (O.writer.contents out.new)
+    ensures broken { result ≡ Err RunFault.Write → IsAnswerPartWritten (option_copied prefer.entry) bytes.items (O.writer.contents out.old)
+        (O.writer.contents out.new)
         (E.writer.contents err.old) (E.writer.contents err.new) }
     ensures write { result ≡ Err RunFault.Write
         → (O.writer.has_failed out.new ≡ true) ⊎ (E.writer.has_failed err.new ≡ true) }
     ensures faults { IfErr result (λ fault. (fault ≡ RunFault.Memory) ⊎ (fault ≡ RunFault.Write)) }
     ensures out_first { O.writer.has_failed out.new ≡ true → O.writer.flushes out.new ≡ O.writer.flushes out.old → err.new ≡ err.old }
-    ensures writes_first { E.writer.has_failed err.new ≡ true → E.writer.flushes err.new ≡ E.writer.flushes err.old → O.writer.flushes out.new ≡ O.writer.flushes out.old }
+    ensures writes_first { E.writer.has_failed err.new ≡ true → E.writer.flushes err.new ≡ E.writer.flushes err.old → O.writer.flushes out.new
+        ≡ O.writer.flushes out.old }
     ensures flush_order { (E.writer.flushes err.new ≡ E.writer.flushes err.old) ⊎ (O.writer.is_flushed out.new ≡ true) }
-    ensures out_needed { O.writer.has_failed out.new ≡ true → O.writer.flushes out.new ≡ O.writer.flushes out.old → IsSomeReport (option_copied prefer.entry) bytes.items }
-    ensures err_needed { E.writer.has_failed err.new ≡ true → E.writer.flushes err.new ≡ E.writer.flushes err.old → (lines : List (List ℕ)) × IsRefusal (option_copied prefer.entry) bytes.items lines }
+    ensures out_needed { O.writer.has_failed out.new ≡ true → O.writer.flushes out.new ≡ O.writer.flushes out.old
+        → IsSomeReport (option_copied prefer.entry) bytes.items }
+    ensures err_needed { E.writer.has_failed err.new ≡ true → E.writer.flushes err.new ≡ E.writer.flushes err.old → (lines : List (List ℕ))
+        × IsRefusal (option_copied prefer.entry) bytes.items lines }
 {
     match canonical_of_input(alloc, bytes, prefer, disposal) {
         Ok(text) => write_both(out, err, Outcome::Good, text.as_slice(), &[]),
@@ -376,7 +384,8 @@ fn write_compared<O: Sink, D: Disposal>(
     disposal: &D,
 ) -> Result<Outcome, RunFault>
     requires { O.writer.has_failed out.old ≡ false }
-    ensures written { IfOk result (λ outcome. IsCompareWritten (option_copied prefer.entry) left.items right.items outcome (O.writer.contents out.old) (O.writer.contents out.new)) }
+    ensures written { IfOk result (λ outcome. IsCompareWritten (option_copied prefer.entry) left.items right.items outcome (O.writer.contents out.old)
+        (O.writer.contents out.new)) }
     ensures flushed { OnOk result (O.writer.is_flushed out.new ≡ true) }
     ensures works { OnOk result (O.writer.has_failed out.new ≡ false) }
     ensures memory { result ≡ Err RunFault.Memory → out.new ≡ out.old }

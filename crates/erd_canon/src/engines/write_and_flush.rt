@@ -40,7 +40,8 @@ pub(crate) fn write_side_faults<O: Sink>(
     requires { O.writer.has_failed out.old ≡ false }
     ensures outcome { IfOk result (λ answer. answer ≡ Outcome.Bad) }
     ensures fault { IfErr result (λ fault. fault ≡ RunFault.Write) }
-    ensures wrote { OnOk result (Appends (O.writer.contents out.old) (O.writer.contents out.new) (text_of_lines (lines_of_side side.now (map fault_line faults.now)))) }
+    ensures wrote { OnOk result (Appends (O.writer.contents out.old) (O.writer.contents out.new)
+        (text_of_lines (lines_of_side side.now (map fault_line faults.now)))) }
     ensures part { IsPartWritten (O.writer.contents out.old) (O.writer.contents out.new) (text_of_lines (lines_of_side side.now (map fault_line faults.now))) }
     ensures flushed { OnOk result (O.writer.is_flushed out.new ≡ true) }
     ensures works { OnOk result (O.writer.has_failed out.new ≡ false) }

@@ -1,7 +1,9 @@
 -- The task of a request.
 use Rattle.std.specs.Prelude.{◌≡◌, ℕ, List, Option, None, option_copied}
 use Rattle.erd_canon.specs.declared.commands.request.Request.{Request}
-use Rattle.erd_canon.specs.declared.commands.request.Request.TheVariants.{Filter, Check, Canon, Compare, CheckData, CompareData, Differences, DifferencesData, Prepare, PrepareList, PrepareReport, Ballots, BallotsData, BallotDifferences, BallotDifferencesData}
+use Rattle.erd_canon.specs.declared.commands.request.Request.TheVariants.{Filter, Check, Canon, Compare, CheckData, CompareData, Differences, DifferencesData}
+use Rattle.erd_canon.specs.declared.commands.request.Request.TheVariants.{Prepare, PrepareList, PrepareReport, Ballots, BallotsData, BallotDifferences}
+use Rattle.erd_canon.specs.declared.commands.request.Request.TheVariants.{BallotDifferencesData}
 use Rattle.erd_program.specs.declared.commands.FileCommand.{FileCommand}
 use Rattle.erd_program.specs.declared.commands.FileCommand.TheVariants as file
 use Rattle.erd_canon.specs.declared.engines.asked.PairCommand.TheVariants as asked_of_two

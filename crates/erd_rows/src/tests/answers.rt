@@ -1,6 +1,6 @@
 //! What a call answers, with or without a refused request for memory.
 use erd_canon::{Outcome, Refusal, RunFault};
-use erd_tables::FaultList;
+use erd_tables::{Fault, FaultList};
 use std::alloc::{AllocError, Global};
 
 // The result of a call.
@@ -34,14 +34,17 @@ pub fn has_text(found: Result<String, AllocError>, wanted: &str) -> Answer {
     }
 }
 
-// The lines of a list of faults, each after the name of its side and with its line feed.
+// The line of a fault, after the name of its side and with its line feed.
+fn line(alloc: Global, side: &str, fault: &Fault) -> Result<String, AllocError> {
+    let line = fault.line(alloc)?;
+    format!(in alloc; "{side}{line}\n")
+}
+
+// The lines of a list of faults, each after the name of its side.
 pub fn lines(alloc: Global, side: &str, faults: &FaultList) -> Result<String, AllocError> {
     let mut text = String::new(alloc);
     for fault in faults.iter() {
-        let line = fault.line(alloc)?;
-        text.push_str(side)?;
-        text.push_str(line.as_str())?;
-        text.push('\n')?;
+        text.push_str(line(alloc, side, fault)?.as_str())?;
     }
     Ok(text)
 }

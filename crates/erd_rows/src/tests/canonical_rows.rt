@@ -7,11 +7,23 @@ use std::alloc::Global;
 use std::test::Fail;
 
 // The units K to A, and their canonical forms A to K: the tenth `@id` comes after the second, although its text is less.
-const ELEVEN_UNITS: &str =
-    r#"{"@id":"u1","@type":"%ReportingUnit","Type":"county",#K&},{"@id":"u2","@type":"%ReportingUnit","Type":"county",#J&},{"@id":"u3","@type":"%ReportingUnit","Type":"county",#I&},{"@id":"u4","@type":"%ReportingUnit","Type":"county",#H&},{"@id":"u5","@type":"%ReportingUnit","Type":"county",#G&},{"@id":"u6","@type":"%ReportingUnit","Type":"county",#F&},{"@id":"u7","@type":"%ReportingUnit","Type":"county",#E&},{"@id":"u8","@type":"%ReportingUnit","Type":"county",#D&},{"@id":"u9","@type":"%ReportingUnit","Type":"county",#C&},{"@id":"u10","@type":"%ReportingUnit","Type":"county",#B&},{"@id":"u11","@type":"%ReportingUnit","Type":"county",#A&}"#;
+const ELEVEN_UNITS: &str = concat!(
+    r#"{"@id":"u1","@type":"%ReportingUnit","Type":"county",#K&},{"@id":"u2","@type":"%ReportingUnit","Type":"county",#J&},{"@id":"u3","#,
+    r#""@type":"%ReportingUnit","Type":"county",#I&},{"@id":"u4","@type":"%ReportingUnit","Type":"county",#H&},{"@id":"u5","#,
+    r#""@type":"%ReportingUnit","Type":"county",#G&},{"@id":"u6","@type":"%ReportingUnit","Type":"county",#F&},{"@id":"u7","#,
+    r#""@type":"%ReportingUnit","Type":"county",#E&},{"@id":"u8","@type":"%ReportingUnit","Type":"county",#D&},{"@id":"u9","#,
+    r#""@type":"%ReportingUnit","Type":"county",#C&},{"@id":"u10","@type":"%ReportingUnit","Type":"county",#B&},{"@id":"u11","#,
+    r#""@type":"%ReportingUnit","Type":"county",#A&}"#,
+);
 
-const ELEVEN_CANONICAL_UNITS: &str =
-    r#"{"@id":"gp1","@type":"%ReportingUnit",#A&,"Type":"county"},{"@id":"gp2","@type":"%ReportingUnit",#B&,"Type":"county"},{"@id":"gp3","@type":"%ReportingUnit",#C&,"Type":"county"},{"@id":"gp4","@type":"%ReportingUnit",#D&,"Type":"county"},{"@id":"gp5","@type":"%ReportingUnit",#E&,"Type":"county"},{"@id":"gp6","@type":"%ReportingUnit",#F&,"Type":"county"},{"@id":"gp7","@type":"%ReportingUnit",#G&,"Type":"county"},{"@id":"gp8","@type":"%ReportingUnit",#H&,"Type":"county"},{"@id":"gp9","@type":"%ReportingUnit",#I&,"Type":"county"},{"@id":"gp10","@type":"%ReportingUnit",#J&,"Type":"county"},{"@id":"gp11","@type":"%ReportingUnit",#K&,"Type":"county"}"#;
+const ELEVEN_CANONICAL_UNITS: &str = concat!(
+    r#"{"@id":"gp1","@type":"%ReportingUnit",#A&,"Type":"county"},{"@id":"gp2","@type":"%ReportingUnit",#B&,"Type":"county"},"#,
+    r#"{"@id":"gp3","@type":"%ReportingUnit",#C&,"Type":"county"},{"@id":"gp4","@type":"%ReportingUnit",#D&,"Type":"county"},"#,
+    r#"{"@id":"gp5","@type":"%ReportingUnit",#E&,"Type":"county"},{"@id":"gp6","@type":"%ReportingUnit",#F&,"Type":"county"},"#,
+    r#"{"@id":"gp7","@type":"%ReportingUnit",#G&,"Type":"county"},{"@id":"gp8","@type":"%ReportingUnit",#H&,"Type":"county"},"#,
+    r#"{"@id":"gp9","@type":"%ReportingUnit",#I&,"Type":"county"},{"@id":"gp10","@type":"%ReportingUnit",#J&,"Type":"county"},"#,
+    r#"{"@id":"gp11","@type":"%ReportingUnit",#K&,"Type":"county"}"#,
+);
 
 const ROWS: &[Row] = &[
     ("one_unit", UNIT_REPORT, Form(UNIT_FORM)),

@@ -27,20 +27,30 @@ const OTHER_KEY: &[Edit] = &[(r#""Value":"K3""#, r#""Value":"K4""#)];
 const GOVERNOR: &str =
     r#"{"@type":"%OrderedContest","ContestId":"a8","OrderedContestSelectionIds":["a10","a9","a11"]}"#;
 
-const STATE: &str =
-    r#"{"@type":"%OrderedHeader","HeaderId":"a4","OrderedContent":[{"@type":"%OrderedContest","ContestId":"a8","OrderedContestSelectionIds":["a10","a9","a11"]}]}"#;
+const STATE: &str = concat!(
+    r#"{"@type":"%OrderedHeader","HeaderId":"a4","OrderedContent":[{"@type":"%OrderedContest","ContestId":"a8","#,
+    r#""OrderedContestSelectionIds":["a10","a9","a11"]}]}"#,
+);
 
 const CONTENT_ORDER: &[Edit] = &[(
-    r#"{"@type":"%OrderedHeader","HeaderId":"a4","OrderedContent":[{"@type":"%OrderedContest","ContestId":"a8","OrderedContestSelectionIds":["a10","a9","a11"]}]},{"@type":"%OrderedContest","ContestId":"a12"}"#,
-    r#"{"@type":"%OrderedContest","ContestId":"a12"},{"@type":"%OrderedHeader","HeaderId":"a4","OrderedContent":[{"@type":"%OrderedContest","ContestId":"a8","OrderedContestSelectionIds":["a10","a9","a11"]}]}"#,
+    concat!(
+        r#"{"@type":"%OrderedHeader","HeaderId":"a4","OrderedContent":[{"@type":"%OrderedContest","ContestId":"a8","#,
+        r#""OrderedContestSelectionIds":["a10","a9","a11"]}]},{"@type":"%OrderedContest","ContestId":"a12"}"#,
+    ),
+    concat!(
+        r#"{"@type":"%OrderedContest","ContestId":"a12"},{"@type":"%OrderedHeader","HeaderId":"a4","#,
+        r#""OrderedContent":[{"@type":"%OrderedContest","ContestId":"a8","OrderedContestSelectionIds":["a10","a9","a11"]}]}"#,
+    ),
 )];
 
 const SELECTION_ORDER: &[Edit] = &[(r#"["a10","a9","a11"]"#, r#"["a9","a10","a11"]"#)];
 
 const STYLE: &str = "style [\"local-level\",\"\",\"S1\"]: member \"OrderedContent\"\n";
 
-const THREE_LINES: &str =
-    "right: /Election/0/Contest/0: missing member Name\nright: /Election/0/Contest/0/VotesAllowed: wrong kind\nright: /GpUnit/1/ContactInformation/LatLng/Latitude: not a whole number\n";
+const THREE_LINES: &str = concat!(
+    "right: /Election/0/Contest/0: missing member Name\nright: /Election/0/Contest/0/VotesAllowed: wrong kind\n",
+    "right: /GpUnit/1/ContactInformation/LatLng/Latitude: not a whole number\n",
+);
 
 const ROWS: &[Row] = &[
     ("two_vendors", BALLOT, Beside(VENDOR_BALLOT, SAME)),

@@ -245,68 +245,78 @@ fn each_write_fails(rt: HostRuntime) -> Result<(), Fail> {
     Ok(())
 }
 
-fn canon_flushes(rt: &impl Abort, alloc: Global, one: &[u8]) {
+fn canon_flushes(alloc: Global, one: &[u8]) -> bool {
     let (out, err) = (FailingWriter::at_flush(), FailingWriter::after(0));
     let run = canon_run(alloc, PLAIN, one, out, err);
-    assert!(rt; run.answer == Err(RunFault::Write) && run.out.failed());
-    assert!(rt; run.out.writer.taken == ONE_UNIT_CANONICAL.len());
-    assert!(rt; run.out.writer.flushes == 1);
-    assert!(rt; run.err.writer.flushes == 0);
+    run.answer == Err(RunFault::Write)
+        && run.out.failed()
+        && run.out.writer.taken == ONE_UNIT_CANONICAL.len()
+        && run.out.writer.flushes == 1
+        && run.err.writer.flushes == 0
 }
 
-fn error_flushes(rt: &impl Abort, alloc: Global, one: &[u8]) {
+fn error_flushes(alloc: Global, one: &[u8]) -> bool {
     let (out, err) = (FailingWriter::after(usize::MAX), FailingWriter::at_flush());
     let run = canon_run(alloc, PLAIN, one, out, err);
-    assert!(rt; run.answer == Err(RunFault::Write) && run.err.failed());
-    assert!(rt; run.out.writer.flushes == 1);
-    assert!(rt; run.err.writer.flushes == 1);
-    assert!(rt; run.err.writer.writes == 0);
+    run.answer == Err(RunFault::Write)
+        && run.err.failed()
+        && run.out.writer.flushes == 1
+        && run.err.writer.flushes == 1
+        && run.err.writer.writes == 0
 }
 
-fn check_flushes(rt: &impl Abort, alloc: Global, one: &[u8]) {
+// Whether the one writer of a run took a text of this length, and was flushed once.
+fn is_flushed(
+    answer: Result<Outcome, RunFault>,
+    out: &WriteTo<FailingWriter>,
+    length: usize,
+) -> bool {
+    answer == Err(RunFault::Write)
+        && out.failed()
+        && out.writer.taken == length
+        && out.writer.flushes == 1
+}
+
+fn check_flushes(alloc: Global, one: &[u8]) -> bool {
     let run = check_run(alloc, PLAIN, one, FailingWriter::at_flush());
-    assert!(rt; run.answer == Err(RunFault::Write) && run.out.failed());
-    assert!(rt; run.out.writer.taken == ACCEPTED.len());
-    assert!(rt; run.out.writer.flushes == 1);
+    is_flushed(run.answer, &run.out, ACCEPTED.len())
 }
 
-fn compare_flushes(rt: &impl Abort, alloc: Global, one: &[u8]) {
+fn compare_flushes(alloc: Global, one: &[u8]) -> bool {
     let run = compare_run(alloc, PLAIN, one, one, FailingWriter::at_flush());
-    assert!(rt; run.answer == Err(RunFault::Write) && run.out.failed());
-    assert!(rt; run.out.writer.taken == SAME.len());
-    assert!(rt; run.out.writer.flushes == 1);
+    is_flushed(run.answer, &run.out, SAME.len())
 }
 
 // Each writer is flushed once. A flush that fails ends the run.
 #[test]
 fn each_flush_fails(rt: HostRuntime) {
     let (alloc, one) = (rt.alloc(), ONE_UNIT.as_bytes());
-    canon_flushes(&rt, alloc, one);
-    error_flushes(&rt, alloc, one);
-    check_flushes(&rt, alloc, one);
-    compare_flushes(&rt, alloc, one);
+    assert!(rt; canon_flushes(alloc, one) && error_flushes(alloc, one));
+    assert!(rt; check_flushes(alloc, one) && compare_flushes(alloc, one));
 }
 
-fn canon_into_nothing(rt: &impl Abort, alloc: Global, report: &[u8]) {
+fn canon_into_nothing(alloc: Global, report: &[u8]) -> bool {
     let run = canon_run(alloc, PLAIN, report, FullWriter, FullWriter);
-    assert!(rt; run.answer == Err(RunFault::Write) && run.out.failed() != run.err.failed());
+    run.answer == Err(RunFault::Write) && run.out.failed() != run.err.failed()
 }
 
-fn lines_into_nothing(rt: &impl Abort, alloc: Global, report: &[u8]) {
+fn check_into_nothing(alloc: Global, report: &[u8]) -> bool {
     let run = check_run(alloc, PLAIN, report, FullWriter);
-    assert!(rt; run.answer == Err(RunFault::Write) && run.out.failed());
+    run.answer == Err(RunFault::Write) && run.out.failed()
+}
+
+fn compare_into_nothing(alloc: Global, report: &[u8]) -> bool {
     let run = compare_run(alloc, PLAIN, report, report, FullWriter);
-    assert!(rt; run.answer == Err(RunFault::Write) && run.out.failed());
+    run.answer == Err(RunFault::Write) && run.out.failed()
 }
 
 // A writer that takes no byte of a slice that is not empty has failed. It is the first writer of a run, or the second.
 #[test]
 fn writers_that_take_nothing(rt: HostRuntime) -> Result<(), Fail> {
     let (alloc, one) = (rt.alloc(), ONE_UNIT.as_bytes());
-    canon_into_nothing(&rt, alloc, one);
-    lines_into_nothing(&rt, alloc, one);
+    assert!(rt; check_into_nothing(alloc, one) && compare_into_nothing(alloc, one));
     let refused = made(alloc, (Base::SmallBallot, THREE_SHAPE_FAULT_EDITS))?;
-    canon_into_nothing(&rt, alloc, refused.as_bytes());
+    assert!(rt; canon_into_nothing(alloc, one) && canon_into_nothing(alloc, refused.as_bytes()));
     Ok(())
 }
 
@@ -320,8 +330,7 @@ const WORDS: &[(RunFault, &str)] = &[
 fn words_are(rt: &impl Abort, alloc: Global, table: &[(RunFault, &str)]) -> Result<(), Fail> {
     for (fault, words) in table {
         let text = fault.to_string(alloc)?;
-        assert!(rt; text.as_str() == *words);
-        assert!(rt; fault.words() == *words);
+        assert!(rt; text.as_str() == *words && fault.words() == *words);
     }
     Ok(())
 }

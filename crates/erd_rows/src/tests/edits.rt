@@ -81,24 +81,11 @@ pub fn edited(alloc: Global, text: &str, from: &str, to: &str) -> Result<String,
 // The text with its marks filled. `%` stands for the prefix of class names, and `#U1&` for one identifier of the type
 // `local-level` with the value `U1`.
 pub fn spelled(alloc: Global, text: &str) -> Result<String, AllocError> {
-    let text = filled(
+    let text = text.replace(
         alloc,
-        text,
         '#',
         "\"ExternalIdentifier\":[{\"@type\":\"%ExternalIdentifier\",\"Type\":\"local-level\",\"Value\":\"",
     )?;
-    let text = filled(alloc, text.as_str(), '&', "\"}]")?;
-    filled(alloc, text.as_str(), '%', "ElectionResults.")
-}
-
-// The text with each mark replaced by this text.
-pub fn filled(alloc: Global, text: &str, mark: char, with: &str) -> Result<String, AllocError> {
-    let mut whole = String::new(alloc);
-    for (index, part) in text.split(mark).enumerate() {
-        if index > 0 {
-            whole.push_str(with)?;
-        }
-        whole.push_str(part)?;
-    }
-    Ok(whole)
+    let text = text.replace(alloc, '&', "\"}]")?;
+    text.replace(alloc, '%', "ElectionResults.")
 }

@@ -9,35 +9,74 @@ use std::test::Fail;
 const CANONICAL_ELECTION: &str =
     r#"{"@type":"%Election","ElectionScopeId":"gp1","EndDate":"2026-11-03","Name":"Test","StartDate":"2026-11-03","Type":"general"}"#;
 
-const TEST_AND_OTHER: &str =
-    r#"{"@type":"%Election","Name":"Test","Type":"general","StartDate":"2026-11-03","EndDate":"2026-11-03","ElectionScopeId":"u7",#E2&},{"@type":"%Election","Name":"Other","Type":"general","StartDate":"2026-11-03","EndDate":"2026-11-03","ElectionScopeId":"u7",#E1&}"#;
+const TEST_AND_OTHER: &str = concat!(
+    r#"{"@type":"%Election","Name":"Test","Type":"general","StartDate":"2026-11-03","EndDate":"2026-11-03","#,
+    r#""ElectionScopeId":"u7",#E2&},{"@type":"%Election","Name":"Other","Type":"general","StartDate":"2026-11-03","#,
+    r#""EndDate":"2026-11-03","ElectionScopeId":"u7",#E1&}"#,
+);
 
-const OTHER_AND_TEST: &str =
-    r#"{"@type":"%Election","Name":"Other","Type":"general","StartDate":"2026-11-03","EndDate":"2026-11-03","ElectionScopeId":"u7",#E1&},{"@type":"%Election","Name":"Test","Type":"general","StartDate":"2026-11-03","EndDate":"2026-11-03","ElectionScopeId":"u7",#E2&}"#;
+const OTHER_AND_TEST: &str = concat!(
+    r#"{"@type":"%Election","Name":"Other","Type":"general","StartDate":"2026-11-03","EndDate":"2026-11-03","#,
+    r#""ElectionScopeId":"u7",#E1&},{"@type":"%Election","Name":"Test","Type":"general","StartDate":"2026-11-03","#,
+    r#""EndDate":"2026-11-03","ElectionScopeId":"u7",#E2&}"#,
+);
 
-const CANONICAL_OTHER_AND_TEST: &str =
-    r#"{"@type":"%Election","ElectionScopeId":"gp1","EndDate":"2026-11-03",#E1&,"Name":"Other","StartDate":"2026-11-03","Type":"general"},{"@type":"%Election","ElectionScopeId":"gp1","EndDate":"2026-11-03",#E2&,"Name":"Test","StartDate":"2026-11-03","Type":"general"}"#;
+const CANONICAL_OTHER_AND_TEST: &str = concat!(
+    r#"{"@type":"%Election","ElectionScopeId":"gp1","EndDate":"2026-11-03",#E1&,"Name":"Other","StartDate":"2026-11-03","#,
+    r#""Type":"general"},{"@type":"%Election","ElectionScopeId":"gp1","EndDate":"2026-11-03",#E2&,"Name":"Test","#,
+    r#""StartDate":"2026-11-03","Type":"general"}"#,
+);
 
 // A contest in the first election, and two in the second.
-const CONTESTS: &str =
-    r#"{"@type":"%Election","Name":"Test","Type":"general","StartDate":"2026-11-03","EndDate":"2026-11-03","ElectionScopeId":"u7",#E2&,"Contest":[{"@id":"c2","@type":"%PartyContest",#C2&,"Name":"N","ElectionDistrictId":"u7"}]},{"@type":"%Election","Name":"Other","Type":"general","StartDate":"2026-11-03","EndDate":"2026-11-03","ElectionScopeId":"u7",#E1&,"Contest":[{"@id":"c3","@type":"%PartyContest",#C3&,"Name":"N","ElectionDistrictId":"u7"},{"@id":"c1","@type":"%PartyContest",#C1&,"Name":"N","ElectionDistrictId":"u7"}]}"#;
+const CONTESTS: &str = concat!(
+    r#"{"@type":"%Election","Name":"Test","Type":"general","StartDate":"2026-11-03","EndDate":"2026-11-03","ElectionScopeId":"u7",#E2&,"#,
+    r#""Contest":[{"@id":"c2","@type":"%PartyContest",#C2&,"Name":"N","ElectionDistrictId":"u7"}]},{"@type":"%Election","Name":"Other","#,
+    r#""Type":"general","StartDate":"2026-11-03","EndDate":"2026-11-03","ElectionScopeId":"u7",#E1&,"Contest":[{"@id":"c3","#,
+    r#""@type":"%PartyContest",#C3&,"Name":"N","ElectionDistrictId":"u7"},{"@id":"c1","@type":"%PartyContest",#C1&,"Name":"N","#,
+    r#""ElectionDistrictId":"u7"}]}"#,
+);
 
 // The same contests, all in the second election.
-const MOVED_CONTEST: &str =
-    r#"{"@type":"%Election","Name":"Test","Type":"general","StartDate":"2026-11-03","EndDate":"2026-11-03","ElectionScopeId":"u7",#E2&},{"@type":"%Election","Name":"Other","Type":"general","StartDate":"2026-11-03","EndDate":"2026-11-03","ElectionScopeId":"u7",#E1&,"Contest":[{"@id":"c3","@type":"%PartyContest",#C3&,"Name":"N","ElectionDistrictId":"u7"},{"@id":"c1","@type":"%PartyContest",#C1&,"Name":"N","ElectionDistrictId":"u7"},{"@id":"c2","@type":"%PartyContest",#C2&,"Name":"N","ElectionDistrictId":"u7"}]}"#;
+const MOVED_CONTEST: &str = concat!(
+    r#"{"@type":"%Election","Name":"Test","Type":"general","StartDate":"2026-11-03","EndDate":"2026-11-03","#,
+    r#""ElectionScopeId":"u7",#E2&},{"@type":"%Election","Name":"Other","Type":"general","StartDate":"2026-11-03","#,
+    r#""EndDate":"2026-11-03","ElectionScopeId":"u7",#E1&,"Contest":[{"@id":"c3","@type":"%PartyContest",#C3&,"Name":"N","#,
+    r#""ElectionDistrictId":"u7"},{"@id":"c1","@type":"%PartyContest",#C1&,"Name":"N","ElectionDistrictId":"u7"},{"@id":"c2","#,
+    r#""@type":"%PartyContest",#C2&,"Name":"N","ElectionDistrictId":"u7"}]}"#,
+);
 
-const CANONICAL_CONTESTS: &str =
-    r#"{"@type":"%Election","Contest":[{"@id":"co1","@type":"%PartyContest","ElectionDistrictId":"gp1",#C1&,"Name":"N"},{"@id":"co3","@type":"%PartyContest","ElectionDistrictId":"gp1",#C3&,"Name":"N"}],"ElectionScopeId":"gp1","EndDate":"2026-11-03",#E1&,"Name":"Other","StartDate":"2026-11-03","Type":"general"},{"@type":"%Election","Contest":[{"@id":"co2","@type":"%PartyContest","ElectionDistrictId":"gp1",#C2&,"Name":"N"}],"ElectionScopeId":"gp1","EndDate":"2026-11-03",#E2&,"Name":"Test","StartDate":"2026-11-03","Type":"general"}"#;
+const CANONICAL_CONTESTS: &str = concat!(
+    r#"{"@type":"%Election","Contest":[{"@id":"co1","@type":"%PartyContest","ElectionDistrictId":"gp1",#C1&,"Name":"N"},{"@id":"co3","#,
+    r#""@type":"%PartyContest","ElectionDistrictId":"gp1",#C3&,"Name":"N"}],"ElectionScopeId":"gp1","EndDate":"2026-11-03",#E1&,"#,
+    r#""Name":"Other","StartDate":"2026-11-03","Type":"general"},{"@type":"%Election","Contest":[{"@id":"co2","@type":"%PartyContest","#,
+    r#""ElectionDistrictId":"gp1",#C2&,"Name":"N"}],"ElectionScopeId":"gp1","EndDate":"2026-11-03",#E2&,"Name":"Test","#,
+    r#""StartDate":"2026-11-03","Type":"general"}"#,
+);
 
 // Each election with identifiers of two types.
-const TWO_TYPES: &str =
-    r#"{"@type":"%Election","Name":"Test","Type":"general","StartDate":"2026-11-03","EndDate":"2026-11-03","ElectionScopeId":"u7","ExternalIdentifier":[{"@type":"%ExternalIdentifier","Type":"local-level","Value":"E2"},{"@type":"%ExternalIdentifier","Type":"fips","Value":"1"}]},{"@type":"%Election","Name":"Other","Type":"general","StartDate":"2026-11-03","EndDate":"2026-11-03","ElectionScopeId":"u7","ExternalIdentifier":[{"@type":"%ExternalIdentifier","Type":"local-level","Value":"E1"},{"@type":"%ExternalIdentifier","Type":"fips","Value":"2"}]}"#;
+const TWO_TYPES: &str = concat!(
+    r#"{"@type":"%Election","Name":"Test","Type":"general","StartDate":"2026-11-03","EndDate":"2026-11-03","ElectionScopeId":"u7","#,
+    r#""ExternalIdentifier":[{"@type":"%ExternalIdentifier","Type":"local-level","Value":"E2"},{"@type":"%ExternalIdentifier","#,
+    r#""Type":"fips","Value":"1"}]},{"@type":"%Election","Name":"Other","Type":"general","StartDate":"2026-11-03","#,
+    r#""EndDate":"2026-11-03","ElectionScopeId":"u7","ExternalIdentifier":[{"@type":"%ExternalIdentifier","Type":"local-level","#,
+    r#""Value":"E1"},{"@type":"%ExternalIdentifier","Type":"fips","Value":"2"}]}"#,
+);
 
-const BY_FIPS: &str =
-    r#"{"@type":"%Election","ElectionScopeId":"gp1","EndDate":"2026-11-03","ExternalIdentifier":[{"@type":"%ExternalIdentifier","Type":"fips","Value":"1"},{"@type":"%ExternalIdentifier","Type":"local-level","Value":"E2"}],"Name":"Test","StartDate":"2026-11-03","Type":"general"},{"@type":"%Election","ElectionScopeId":"gp1","EndDate":"2026-11-03","ExternalIdentifier":[{"@type":"%ExternalIdentifier","Type":"fips","Value":"2"},{"@type":"%ExternalIdentifier","Type":"local-level","Value":"E1"}],"Name":"Other","StartDate":"2026-11-03","Type":"general"}"#;
+const BY_FIPS: &str = concat!(
+    r#"{"@type":"%Election","ElectionScopeId":"gp1","EndDate":"2026-11-03","ExternalIdentifier":[{"@type":"%ExternalIdentifier","#,
+    r#""Type":"fips","Value":"1"},{"@type":"%ExternalIdentifier","Type":"local-level","Value":"E2"}],"Name":"Test","#,
+    r#""StartDate":"2026-11-03","Type":"general"},{"@type":"%Election","ElectionScopeId":"gp1","EndDate":"2026-11-03","#,
+    r#""ExternalIdentifier":[{"@type":"%ExternalIdentifier","Type":"fips","Value":"2"},{"@type":"%ExternalIdentifier","#,
+    r#""Type":"local-level","Value":"E1"}],"Name":"Other","StartDate":"2026-11-03","Type":"general"}"#,
+);
 
-const BY_LOCAL_LEVEL: &str =
-    r#"{"@type":"%Election","ElectionScopeId":"gp1","EndDate":"2026-11-03","ExternalIdentifier":[{"@type":"%ExternalIdentifier","Type":"fips","Value":"2"},{"@type":"%ExternalIdentifier","Type":"local-level","Value":"E1"}],"Name":"Other","StartDate":"2026-11-03","Type":"general"},{"@type":"%Election","ElectionScopeId":"gp1","EndDate":"2026-11-03","ExternalIdentifier":[{"@type":"%ExternalIdentifier","Type":"fips","Value":"1"},{"@type":"%ExternalIdentifier","Type":"local-level","Value":"E2"}],"Name":"Test","StartDate":"2026-11-03","Type":"general"}"#;
+const BY_LOCAL_LEVEL: &str = concat!(
+    r#"{"@type":"%Election","ElectionScopeId":"gp1","EndDate":"2026-11-03","ExternalIdentifier":[{"@type":"%ExternalIdentifier","#,
+    r#""Type":"fips","Value":"2"},{"@type":"%ExternalIdentifier","Type":"local-level","Value":"E1"}],"Name":"Other","#,
+    r#""StartDate":"2026-11-03","Type":"general"},{"@type":"%Election","ElectionScopeId":"gp1","EndDate":"2026-11-03","#,
+    r#""ExternalIdentifier":[{"@type":"%ExternalIdentifier","Type":"fips","Value":"1"},{"@type":"%ExternalIdentifier","#,
+    r#""Type":"local-level","Value":"E2"}],"Name":"Test","StartDate":"2026-11-03","Type":"general"}"#,
+);
 
 const TEST_FIRST: Edited = (Base::OneUnit, &[(ELECTION, TEST_AND_OTHER)]);
 
@@ -80,7 +119,11 @@ const ROWS: &[Preferred] = &[
                     Base::OneUnit,
                     &[(
                         ELECTION,
-                        r#"{"@type":"%Election","Name":"Test","Type":"general","StartDate":"2026-11-03","EndDate":"2026-11-03","ElectionScopeId":"u7"},{"@type":"%Election","Name":"Test","Type":"general","StartDate":"2026-11-03","EndDate":"2026-11-03","ElectionScopeId":"u7"}"#,
+                        concat!(
+                            r#"{"@type":"%Election","Name":"Test","Type":"general","StartDate":"2026-11-03","EndDate":"2026-11-03","#,
+                            r#""ElectionScopeId":"u7"},{"@type":"%Election","Name":"Test","Type":"general","StartDate":"2026-11-03","#,
+                            r#""EndDate":"2026-11-03","ElectionScopeId":"u7"}"#,
+                        ),
                     )],
                 ),
                 Lines("/Election/0: no external identifier\n/Election/1: no external identifier\n"),

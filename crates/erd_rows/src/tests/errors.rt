@@ -21,66 +21,69 @@ fn says(alloc: Global, error: &impl Display, wanted: &str) -> Result<bool, Alloc
 
 const ONE_FAULT: &str = "the report has faults: 1";
 
-fn texts_of_checks(rt: &impl Abort, alloc: Global) -> Result<(), Fail> {
-    assert!(rt; says(alloc, &CheckError::Faults(one_fault(alloc)?), ONE_FAULT)?);
-    assert!(rt; says(alloc, &CheckError::Memory, "no memory")?);
-    Ok(())
+fn texts_of_checks(alloc: Global) -> Result<bool, AllocError> {
+    Ok(
+        says(alloc, &CheckError::Faults(one_fault(alloc)?), ONE_FAULT)?
+            && says(alloc, &CheckError::Memory, "no memory")?,
+    )
 }
 
-fn texts_of_refusals(rt: &impl Abort, alloc: Global) -> Result<(), Fail> {
-    assert!(rt; says(alloc, &Refusal::Faults(one_fault(alloc)?), ONE_FAULT)?);
-    assert!(rt; says(alloc, &Refusal::NotJson, "not JSON")?);
-    assert!(rt; says(alloc, &Refusal::Memory, "no memory")?);
-    Ok(())
+fn texts_of_refusals(alloc: Global) -> Result<bool, AllocError> {
+    Ok(
+        says(alloc, &Refusal::Faults(one_fault(alloc)?), ONE_FAULT)?
+            && says(alloc, &Refusal::NotJson, "not JSON")?
+            && says(alloc, &Refusal::Memory, "no memory")?,
+    )
 }
 
-fn texts_of_sides(rt: &impl Abort, alloc: Global) -> Result<(), Fail> {
+fn texts_of_sides(alloc: Global) -> Result<bool, AllocError> {
     let left = Side::Left(Refusal::Faults(one_fault(alloc)?));
-    assert!(rt; says(alloc, &left, "left: the report has faults: 1")?);
-    assert!(rt; says(alloc, &Side::Right(Refusal::NotJson), "right: not JSON")?);
-    assert!(rt; says(alloc, &Side::Memory, "no memory")?);
-    Ok(())
+    Ok(
+        says(alloc, &left, "left: the report has faults: 1")?
+            && says(alloc, &Side::Right(Refusal::NotJson), "right: not JSON")?
+            && says(alloc, &Side::Memory, "no memory")?,
+    )
 }
 
-fn texts_of_lines(rt: &impl Abort, alloc: Global) -> Result<(), Fail> {
+fn texts_of_lines(alloc: Global) -> Result<bool, AllocError> {
     let usage = LineFault::Usage(Text::of(String::from_str(alloc, "Usage: erd")?));
-    assert!(rt; says(alloc, &usage, "Usage: erd")?);
     let help = LineFault::Help(Text::of(String::from_str(alloc, "a\nb")?));
-    assert!(rt; says(alloc, &help, "a\nb")?);
-    assert!(rt; says(alloc, &LineFault::Memory, "no memory")?);
-    Ok(())
+    Ok(
+        says(alloc, &usage, "Usage: erd")?
+            && says(alloc, &help, "a\nb")?
+            && says(alloc, &LineFault::Memory, "no memory")?,
+    )
 }
 
 #[test]
 fn texts_of_errors(rt: HostRuntime) -> Result<(), Fail> {
     let alloc = rt.alloc();
-    texts_of_checks(&rt, alloc)?;
-    texts_of_refusals(&rt, alloc)?;
-    texts_of_sides(&rt, alloc)?;
-    texts_of_lines(&rt, alloc)
+    assert!(rt; texts_of_checks(alloc)? && texts_of_refusals(alloc)?);
+    assert!(rt; texts_of_sides(alloc)? && texts_of_lines(alloc)?);
+    Ok(())
 }
 
-fn has_no_fault(rt: &impl Abort, list: &FaultList) {
-    assert!(rt; list.is_empty());
-    assert!(rt; list.iter().next().is_none());
+fn has_no_fault(list: &FaultList) -> bool {
+    list.is_empty() && list.iter().next().is_none()
 }
 
-fn has_one_fault(rt: &impl Abort, alloc: Global, list: &FaultList) -> Result<(), Fail> {
-    assert!(rt; !list.is_empty());
-    for fault in list.iter() {
-        assert!(rt; fault.line(alloc)?.as_str() == "/2: wrong kind");
-        assert!(rt; !fault.place.is_empty());
-        assert!(rt; fault.place.iter().count() == 1);
-    }
-    assert!(rt; list.iter().count() == 1);
+fn has_one_fault(list: &FaultList, fault: &Fault) -> bool {
+    !list.is_empty()
+        && list.iter().count() == 1
+        && !fault.place.is_empty()
+        && fault.place.iter().count() == 1
+}
+
+fn first_fault(rt: &impl Abort, alloc: Global, list: &FaultList) -> Result<(), Fail> {
+    let fault = list.iter().next().ok_or("no fault")?;
+    assert!(rt; has_one_fault(list, fault));
+    assert!(rt; fault.line(alloc)?.as_str() == "/2: wrong kind");
     Ok(())
 }
 
 #[test]
 fn lists_in_turn(rt: HostRuntime) -> Result<(), Fail> {
     let alloc = rt.alloc();
-    has_no_fault(&rt, &FaultList::of(Vec::new(alloc)));
-    has_one_fault(&rt, alloc, &one_fault(alloc)?)?;
-    assert!(rt; Place::of(Vec::new(alloc)).is_empty());
-    Ok(())
+    assert!(rt; has_no_fault(&FaultList::of(Vec::new(alloc))));
+    first_fault(&rt, alloc, &one_fault(alloc)?)
 }

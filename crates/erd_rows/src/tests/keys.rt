@@ -2,7 +2,7 @@
 use crate::tests::answers::{Answer, right_if};
 use crate::tests::edits::{Base, edited, made, spelled};
 use crate::tests::preferred_rows::TWO_UNITS;
-use crate::tests::report_calls::{Asked, on_report};
+use crate::tests::report_calls::{Checked, on_report};
 use crate::tests::rows::taking;
 use crate::tests::vectors::{LOCAL, ONE_UNIT, UNIT};
 use crate::tests::worked::ORDERS;
@@ -120,25 +120,31 @@ const KEYS: &[Keyed] = &[
     ),
 ];
 
-// The identifiers in this order, as a member of a report. A position past the last one is left out.
-fn identifiers(alloc: Global, entries: &[&str], order: &[usize]) -> Result<String, AllocError> {
-    let mut array = String::from_str(alloc, "\"ExternalIdentifier\":[")?;
-    let empty = array.len();
+// One identifier, after a comma.
+fn one_more(alloc: Global, identifier: &str) -> Result<String, AllocError> {
+    let (kind, other, value) = texts_of(identifier);
+    let other = other_type(alloc, other)?;
+    format!(in alloc;
+        ",{{\"@type\":\"ElectionResults.ExternalIdentifier\",{other}\"Type\":\"{kind}\",\"Value\":\"{value}\"}}"
+    )
+}
+
+// The identifiers in this order, each after a comma. A position past the last one is left out.
+fn in_this_order(alloc: Global, entries: &[&str], order: &[usize]) -> Result<String, AllocError> {
+    let mut list = String::new(alloc);
     for position in order {
         if let Some(identifier) = entries.get(*position) {
-            if array.len() > empty {
-                array.push(',')?;
-            }
-            let (kind, other, value) = texts_of(identifier);
-            let other = other_type(alloc, other)?;
-            let entry = format!(in alloc;
-                "{{\"@type\":\"ElectionResults.ExternalIdentifier\",{other}\"Type\":\"{kind}\",\"Value\":\"{value}\"}}"
-            )?;
-            array.push_str(entry.as_str())?;
+            list.push_str(one_more(alloc, identifier)?.as_str())?;
         }
     }
-    array.push(']')?;
-    Ok(array)
+    Ok(list)
+}
+
+// The identifiers in this order, as a member of a report.
+fn identifiers(alloc: Global, entries: &[&str], order: &[usize]) -> Result<String, AllocError> {
+    let list = in_this_order(alloc, entries, order)?;
+    let entries = list.strip_prefix(',').unwrap_or("");
+    format!(in alloc; "\"ExternalIdentifier\":[{entries}]")
 }
 
 // The member `OtherType` with this value. It is left out where the value is empty, and empty where the value is `EMPTY`.
@@ -169,7 +175,7 @@ fn keys_are(
     prefer: Option<&str>,
     wanted: &[&str],
 ) -> Result<bool, Fail> {
-    let asked = Asked {
+    let asked = Checked {
         report: report.as_bytes(),
         lines: "",
         form: "",

@@ -40,7 +40,11 @@ const ROWS: &[Row] = &[
             Base::OneUnit,
             &[(
                 UNIT,
-                r#"{"@id":"u7","@type":"%ReportingUnit","Type":"county","ExternalIdentifier":[{"@type":"%ExternalIdentifier","Type":"other","Value":"X"}]},{"@id":"u8","@type":"%ReportingUnit","Type":"county","ExternalIdentifier":[{"@type":"%ExternalIdentifier","OtherType":"","Type":"other","Value":"X"}]}"#,
+                concat!(
+                    r#"{"@id":"u7","@type":"%ReportingUnit","Type":"county","ExternalIdentifier":[{"@type":"%ExternalIdentifier","#,
+                    r#""Type":"other","Value":"X"}]},{"@id":"u8","@type":"%ReportingUnit","Type":"county","#,
+                    r#""ExternalIdentifier":[{"@type":"%ExternalIdentifier","OtherType":"","Type":"other","Value":"X"}]}"#,
+                ),
             )],
         ),
         Lines("/GpUnit/1: identifier used twice\n"),
@@ -51,7 +55,10 @@ const ROWS: &[Row] = &[
             Base::OneUnit,
             &[(
                 r#"#U1&"#,
-                r#""ExternalIdentifier":[{"@type":"%ExternalIdentifier","Type":"other","Value":"X"},{"@type":"%ExternalIdentifier","OtherType":"","Type":"other","Value":"X"}]"#,
+                concat!(
+                    r#""ExternalIdentifier":[{"@type":"%ExternalIdentifier","Type":"other","Value":"X"},{"@type":"%ExternalIdentifier","#,
+                    r#""OtherType":"","Type":"other","Value":"X"}]"#,
+                ),
             )],
         ),
         Lines(ACCEPTED),
@@ -104,7 +111,10 @@ const ROWS: &[Row] = &[
             Base::OneUnit,
             &[(
                 UNIT,
-                r#"{"@id":"u7","@type":"%ReportingUnit","Type":"county",#U1&,"ComposingGpUnitIds":["u8"]},{"@id":"u8","@type":"%ReportingUnit","Type":"county",#U2&,"ComposingGpUnitIds":["u7"]}"#,
+                concat!(
+                    r#"{"@id":"u7","@type":"%ReportingUnit","Type":"county",#U1&,"ComposingGpUnitIds":["u8"]},{"@id":"u8","#,
+                    r#""@type":"%ReportingUnit","Type":"county",#U2&,"ComposingGpUnitIds":["u7"]}"#,
+                ),
             )],
         ),
         Lines(ACCEPTED),
@@ -163,7 +173,10 @@ const ROWS: &[Row] = &[
             Base::SmallBallot,
             &[(
                 WRITE_IN,
-                r#"{"@id":"a11","@type":"%CandidateSelection","IsWriteIn":true,"SequenceOrder":1},{"@id":"a15","@type":"%CandidateSelection","IsWriteIn":true,"SequenceOrder":2}"#,
+                concat!(
+                    r#"{"@id":"a11","@type":"%CandidateSelection","IsWriteIn":true,"SequenceOrder":1},{"@id":"a15","#,
+                    r#""@type":"%CandidateSelection","IsWriteIn":true,"SequenceOrder":2}"#,
+                ),
             )],
         ),
         Lines(ACCEPTED),

@@ -2,7 +2,7 @@
 use crate::tests::answers::{Answer, right_if};
 use crate::tests::edits::{BALLOT, BALLOT_FORM, Base, Edit, Edited, VENDOR_BALLOT, made};
 use crate::tests::orders::numbers_in_order;
-use crate::tests::report_calls::{Asked, on_report};
+use crate::tests::report_calls::{Checked, on_report};
 use crate::tests::runs::PLAIN;
 use crate::tests::vectors::{SMALL_BALLOT, SMALL_BALLOT_CANONICAL};
 use erd_canon::Refusal;
@@ -46,11 +46,17 @@ const NAMES: &[(Edited, Ranked)] = &[
             &[
                 (
                     r#""Name":"Blue"}"#,
-                    r#""Name":"Blue"},{"@id":"a15","@type":"%Coalition",#P2&,"Name":"Both","PartyIds":["a3","a15"],"ContestId":"a8","ContestIds":["a12","a8"]}"#,
+                    concat!(
+                        r#""Name":"Blue"},{"@id":"a15","@type":"%Coalition",#P2&,"Name":"Both","PartyIds":["a3","a15"],"ContestId":"a8","#,
+                        r#""ContestIds":["a12","a8"]}"#,
+                    ),
                 ),
                 (
                     WRITE_IN,
-                    r#""IsWriteIn":true},{"@id":"a18","@type":"%PartySelection","PartyIds":["a15","a3"]},{"@id":"a19","@type":"%PartySelection","PartyIds":["a15"]}"#,
+                    concat!(
+                        r#""IsWriteIn":true},{"@id":"a18","@type":"%PartySelection","PartyIds":["a15","a3"]},{"@id":"a19","#,
+                        r#""@type":"%PartySelection","PartyIds":["a15"]}"#,
+                    ),
                 ),
             ],
         ),
@@ -62,7 +68,11 @@ const NAMES: &[(Edited, Ranked)] = &[
             Base::SmallBallot,
             &[(
                 r#"],"BallotStyle""#,
-                r#",{"@id":"a15","@type":"%RetentionContest",#C3&,"Name":"Keep","CandidateId":"a5","OfficeId":"a17","ElectionDistrictId":"a1","ContestSelection":[{"@id":"a18","@type":"%BallotMeasureSelection","Selection":"No"}]}],"BallotStyle""#,
+                concat!(
+                    r#",{"@id":"a15","@type":"%RetentionContest",#C3&,"Name":"Keep","CandidateId":"a5","OfficeId":"a17","#,
+                    r#""ElectionDistrictId":"a1","ContestSelection":[{"@id":"a18","@type":"%BallotMeasureSelection","Selection":"No"}]}],"#,
+                    r#""BallotStyle""#,
+                ),
             )],
         ),
         &[(0, 3), (0, 4), (0, 2), (1, 1), (1, 0), (2, 0)],
@@ -101,7 +111,13 @@ const BY_WRITE_INS: &[(&str, Ranked)] = &[
     ),
     // An absent number comes first. Numbers are ordered by value.
     (
-        r#""IsWriteIn":true},{"@id":"a15","@type":"%CandidateSelection","IsWriteIn":true,"SequenceOrder":10},{"@id":"a18","@type":"%CandidateSelection","IsWriteIn":true,"SequenceOrder":2},{"@id":"a19","@type":"%CandidateSelection","IsWriteIn":true,"SequenceOrder":-1},{"@id":"a20","@type":"%CandidateSelection","IsWriteIn":true,"SequenceOrder":18446744073709551615},{"@id":"a21","@type":"%CandidateSelection","IsWriteIn":true,"SequenceOrder":-9223372036854775808}"#,
+        concat!(
+            r#""IsWriteIn":true},{"@id":"a15","@type":"%CandidateSelection","IsWriteIn":true,"SequenceOrder":10},{"@id":"a18","#,
+            r#""@type":"%CandidateSelection","IsWriteIn":true,"SequenceOrder":2},{"@id":"a19","@type":"%CandidateSelection","#,
+            r#""IsWriteIn":true,"SequenceOrder":-1},{"@id":"a20","@type":"%CandidateSelection","IsWriteIn":true,"#,
+            r#""SequenceOrder":18446744073709551615},{"@id":"a21","@type":"%CandidateSelection","IsWriteIn":true,"#,
+            r#""SequenceOrder":-9223372036854775808}"#,
+        ),
         &[
             (0, 8),
             (0, 9),
@@ -127,17 +143,31 @@ const BY_ANSWERS: &[(&str, Ranked)] = &[
     // A label as a text and the same label as one translation are different. Labels with translations are ordered by their
     // bytes.
     (
-        r#""Selection":"No"},{"@id":"a15","@type":"%BallotMeasureSelection","Selection":"Yes"},{"@id":"a18","@type":"%BallotMeasureSelection","Selection":{"@type":"%InternationalizedText","Text":[{"@type":"%LanguageString","Language":"en","Content":"Yes"}]}}"#,
+        concat!(
+            r#""Selection":"No"},{"@id":"a15","@type":"%BallotMeasureSelection","Selection":"Yes"},{"@id":"a18","#,
+            r#""@type":"%BallotMeasureSelection","Selection":{"@type":"%InternationalizedText","Text":[{"@type":"%LanguageString","#,
+            r#""Language":"en","Content":"Yes"}]}}"#,
+        ),
         &[(0, 5), (0, 6), (0, 4), (1, 2), (1, 0), (1, 1), (1, 3)],
     ),
     // The carried members of a label are part of it. So are those of a translation.
     (
-        r#""Selection":"No"},{"@id":"a15","@type":"%BallotMeasureSelection","Selection":{"@type":"%InternationalizedText","Note":[2],"Text":[{"@type":"%LanguageString","Language":"en","Content":"Yes"},{"@type":"%LanguageString","Language":"es","Content":"Si"}]}},{"@id":"a18","@type":"%BallotMeasureSelection","Selection":{"@type":"%InternationalizedText","Text":[{"@type":"%LanguageString","Language":"en","Content":"Yes"},{"@type":"%LanguageString","Language":"es","Content":"Si","Accent":false}]}}"#,
+        concat!(
+            r#""Selection":"No"},{"@id":"a15","@type":"%BallotMeasureSelection","Selection":{"@type":"%InternationalizedText","Note":[2],"#,
+            r#""Text":[{"@type":"%LanguageString","Language":"en","Content":"Yes"},{"@type":"%LanguageString","Language":"es","#,
+            r#""Content":"Si"}]}},{"@id":"a18","@type":"%BallotMeasureSelection","Selection":{"@type":"%InternationalizedText","#,
+            r#""Text":[{"@type":"%LanguageString","Language":"en","Content":"Yes"},{"@type":"%LanguageString","Language":"es","#,
+            r#""Content":"Si","Accent":false}]}}"#,
+        ),
         &[(0, 5), (0, 6), (0, 4), (1, 3), (1, 0), (1, 1), (1, 2)],
     ),
     // An absent identifier comes first. If there are several, the least one counts.
     (
-        r#""Selection":"No"},{"@id":"a15","@type":"%BallotMeasureSelection","Selection":"No",#W1&},{"@id":"a18","@type":"%BallotMeasureSelection","Selection":"No","ExternalIdentifier":[{"@type":"%ExternalIdentifier","Type":"local-level","Value":"W1"},{"@type":"%ExternalIdentifier","Type":"fips","Value":"20"}]}"#,
+        concat!(
+            r#""Selection":"No"},{"@id":"a15","@type":"%BallotMeasureSelection","Selection":"No",#W1&},{"@id":"a18","#,
+            r#""@type":"%BallotMeasureSelection","Selection":"No","ExternalIdentifier":[{"@type":"%ExternalIdentifier","#,
+            r#""Type":"local-level","Value":"W1"},{"@type":"%ExternalIdentifier","Type":"fips","Value":"20"}]}"#,
+        ),
         &[(0, 5), (0, 6), (0, 4), (1, 3), (1, 0), (1, 2), (1, 1)],
     ),
 ];
@@ -210,7 +240,7 @@ pub fn on_text<F: FnOnce(&Report) -> Answer>(
 ) -> Result<Answer, Refusal>
     requires { F.IsAlwaysCallable then }
 {
-    let asked = Asked {
+    let asked = Checked {
         report: text.as_bytes(),
         lines: "",
         form: "",

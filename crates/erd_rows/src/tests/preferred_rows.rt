@@ -10,20 +10,34 @@ use std::alloc::Global;
 use std::test::Fail;
 
 // Two units with two identifiers each. The second has the lesser one of the type `fips`.
-pub const TWO_UNITS: &str =
-    r#"{"@id":"u7","@type":"%ReportingUnit","Type":"county","ExternalIdentifier":[{"@type":"%ExternalIdentifier","Type":"local-level","Value":"U1"},{"@type":"%ExternalIdentifier","Type":"fips","Value":"20"}]},{"@id":"u8","@type":"%ReportingUnit","Type":"county","ExternalIdentifier":[{"@type":"%ExternalIdentifier","Type":"local-level","Value":"U2"},{"@type":"%ExternalIdentifier","Type":"fips","Value":"10"}]}"#;
+pub const TWO_UNITS: &str = concat!(
+    r#"{"@id":"u7","@type":"%ReportingUnit","Type":"county","ExternalIdentifier":[{"@type":"%ExternalIdentifier","Type":"local-level","#,
+    r#""Value":"U1"},{"@type":"%ExternalIdentifier","Type":"fips","Value":"20"}]},{"@id":"u8","@type":"%ReportingUnit","Type":"county","#,
+    r#""ExternalIdentifier":[{"@type":"%ExternalIdentifier","Type":"local-level","Value":"U2"},{"@type":"%ExternalIdentifier","#,
+    r#""Type":"fips","Value":"10"}]}"#,
+);
 
 const BY_FIPS: &[Edit] = &[
     (r#""ElectionScopeId":"gp1""#, r#""ElectionScopeId":"gp2""#),
     (
         CANONICAL_UNIT,
-        r#"{"@id":"gp1","@type":"%ReportingUnit","ExternalIdentifier":[{"@type":"%ExternalIdentifier","Type":"fips","Value":"10"},{"@type":"%ExternalIdentifier","Type":"local-level","Value":"U2"}],"Type":"county"},{"@id":"gp2","@type":"%ReportingUnit","ExternalIdentifier":[{"@type":"%ExternalIdentifier","Type":"fips","Value":"20"},{"@type":"%ExternalIdentifier","Type":"local-level","Value":"U1"}],"Type":"county"}"#,
+        concat!(
+            r#"{"@id":"gp1","@type":"%ReportingUnit","ExternalIdentifier":[{"@type":"%ExternalIdentifier","Type":"fips","Value":"10"},"#,
+            r#"{"@type":"%ExternalIdentifier","Type":"local-level","Value":"U2"}],"Type":"county"},{"@id":"gp2","@type":"%ReportingUnit","#,
+            r#""ExternalIdentifier":[{"@type":"%ExternalIdentifier","Type":"fips","Value":"20"},{"@type":"%ExternalIdentifier","#,
+            r#""Type":"local-level","Value":"U1"}],"Type":"county"}"#,
+        ),
     ),
 ];
 
 const BY_LOCAL_LEVEL: &[Edit] = &[(
     CANONICAL_UNIT,
-    r#"{"@id":"gp1","@type":"%ReportingUnit","ExternalIdentifier":[{"@type":"%ExternalIdentifier","Type":"fips","Value":"20"},{"@type":"%ExternalIdentifier","Type":"local-level","Value":"U1"}],"Type":"county"},{"@id":"gp2","@type":"%ReportingUnit","ExternalIdentifier":[{"@type":"%ExternalIdentifier","Type":"fips","Value":"10"},{"@type":"%ExternalIdentifier","Type":"local-level","Value":"U2"}],"Type":"county"}"#,
+    concat!(
+        r#"{"@id":"gp1","@type":"%ReportingUnit","ExternalIdentifier":[{"@type":"%ExternalIdentifier","Type":"fips","Value":"20"},"#,
+        r#"{"@type":"%ExternalIdentifier","Type":"local-level","Value":"U1"}],"Type":"county"},{"@id":"gp2","@type":"%ReportingUnit","#,
+        r#""ExternalIdentifier":[{"@type":"%ExternalIdentifier","Type":"fips","Value":"10"},{"@type":"%ExternalIdentifier","#,
+        r#""Type":"local-level","Value":"U2"}],"Type":"county"}"#,
+    ),
 )];
 
 // The report with these units, and with one identifier changed.

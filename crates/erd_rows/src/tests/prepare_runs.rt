@@ -6,7 +6,7 @@ use erd_canon::{
     Outcome, ReadFrom, RunFault, Source, WriteTo, run_prepare, run_prepare_list, run_prepare_report,
 };
 use erd_prepare::StepName;
-use std::alloc::Global;
+use std::alloc::{AllocError, Global};
 use std::io::{Read, Write};
 use std::process::Abort;
 use std::test::Fail;
@@ -61,11 +61,17 @@ const OFFICES: &str =
 
 const CHOSEN: &[StepName] = &[StepName::Names, StepName::Nulls];
 
-const PREPARED: &str =
-    r#"{"@type":"%ElectionReport","Office":[{"@type":"%Office"},{"@type":"%Office","ExternalIdentifier":[{"@type":"%ExternalIdentifier","OtherType":"name","Type":"other","Value":"Mayor"}],"Name":"Mayor"}]}"#;
+const PREPARED: &str = concat!(
+    r#"{"@type":"%ElectionReport","Office":[{"@type":"%Office"},{"@type":"%Office","#,
+    r#""ExternalIdentifier":[{"@type":"%ExternalIdentifier","OtherType":"name","Type":"other","Value":"Mayor"}],"Name":"Mayor"}]}"#,
+);
 
-const DONE: &str =
-    "nulls: 1 changed\nnames: 1 changed, 1 left\n: missing member Election\n: missing member Status\n/Office/0: missing member Name\n";
+const DONE: &str = concat!(
+    "nulls: 1 changed\nnames: 1 changed, 1 left\n",
+    ": missing member Election\n: missing member Status\n/Office/0: missing member Name\n",
+    "reason 2 (missing member): steps that may fix it: class-names; otherwise ask the vendor: ",
+    "Write the member that is missing. The standard requires it.\n",
+);
 
 fn wrote(
     alloc: Global,
@@ -81,102 +87,108 @@ fn wrote(
     run.answer == Ok(wanted) && run.out.writer.is_whole() && run.err.writer.is_whole()
 }
 
-// The prepared report, and what was done and why the report is refused.
-#[test]
-fn refused_report_is_written(rt: HostRuntime) -> Result<(), Fail> {
-    let alloc = rt.alloc();
-    let file = spelled(alloc, OFFICES)?;
-    let out = spelled(alloc, PREPARED)?;
-    assert!(rt;
-        wrote(
-            alloc,
-            Command::Prepare(CHOSEN),
-            &file,
-            Outcome::Bad,
-            &out,
-            DONE
-        )
-    );
-    Ok(())
-}
+// A report that `names` leaves as it is, and why it is refused.
+const NAMELESS: &str = r#"{"@type":"%ElectionReport","Office":[{"@type":"%Office"}]}"#;
 
-// A step that only leaves something, and no step at all.
-#[test]
-fn what_is_left_is_told(rt: HostRuntime) -> Result<(), Fail> {
-    let alloc = rt.alloc();
-    let file = spelled(
-        alloc,
-        r#"{"@type":"%ElectionReport","Office":[{"@type":"%Office"}]}"#,
-    )?;
-    let faults =
-        ": missing member Election\n: missing member Status\n/Office/0: missing member Name\n";
-    let names = Command::Prepare(&[StepName::Names]);
-    let left = format!(in alloc; "names: 1 left\n{faults}")?;
-    assert!(rt; wrote(alloc, names, &file, Outcome::Bad, &file, &left));
-    assert!(rt;
-        wrote(
-            alloc,
-            Command::Prepare(&[]),
-            &file,
-            Outcome::Bad,
-            &file,
-            faults
-        )
-    );
-    Ok(())
-}
+const FAULTS: &str = concat!(
+    ": missing member Election\n: missing member Status\n/Office/0: missing member Name\n",
+    "reason 2 (missing member): steps that may fix it: class-names; otherwise ask the vendor: ",
+    "Write the member that is missing. The standard requires it.\n",
+);
 
-// Numbers that are written otherwise are told before the steps.
-#[test]
-fn numbers_are_told(rt: HostRuntime) {
-    let file = r#"{"b":null,"a":1.50}"#;
-    let told = "numbers: 1 changed\nnulls: 1 changed\n: missing member @type\n";
-    assert!(rt;
-        wrote(
-            rt.alloc(),
-            Command::Prepare(CHOSEN),
-            file,
-            Outcome::Bad,
-            r#"{"a":1.5}"#,
-            told
-        )
-    );
-}
+const LEFT: &str = concat!(
+    "names: 1 left\n: missing member Election\n: missing member Status\n/Office/0: missing member Name\n",
+    "reason 2 (missing member): steps that may fix it: class-names; otherwise ask the vendor: ",
+    "Write the member that is missing. The standard requires it.\n",
+);
 
-#[test]
-fn steps_are_listed(rt: HostRuntime) -> Result<(), Fail> {
-    let alloc = rt.alloc();
-    let file = spelled(alloc, OFFICES)?;
-    let lines = "nulls (removed): 1 changed\nnames (filled-in): 1 changed, 1 left\n";
-    assert!(rt; wrote(alloc, Command::List, &file, Outcome::Good, lines, ""));
-    assert!(rt; wrote(alloc, Command::List, "{}", Outcome::Good, "", ""));
-    Ok(())
-}
+const LISTED: &str = "nulls (removed): 1 changed\nnames (filled-in): 1 changed, 1 left\n";
 
-#[test]
-fn what_steps_did_is_told(rt: HostRuntime) -> Result<(), Fail> {
-    let alloc = rt.alloc();
-    let told =
-        "[{\"changes\":[{\"before\":null,\"place\":[\"a\"]}],\"count\":1,\"done\":true,\"left\":[],\"left_count\":0,\"more\":false,\"step\":\"nulls\"}]\n";
-    let done = Command::Report(CHOSEN);
-    assert!(rt; wrote(alloc, done, r#"{"a":null}"#, Outcome::Good, told, ""));
-    let told =
-        "[{\"changes\":[{\"before\":null,\"place\":[\"a\"]}],\"count\":1,\"done\":false,\"left\":[],\"left_count\":0,\"more\":false,\"step\":\"nulls\"}]\n";
-    let tried = Command::Report(&[]);
-    assert!(rt; wrote(alloc, tried, r#"{"a":null}"#, Outcome::Good, told, ""));
-    Ok(())
-}
+// A number that is written otherwise, and what the run tells of it before the steps.
+const NUMBER: &str = r#"{"b":null,"a":1.50}"#;
 
-#[test]
-fn what_is_no_json_is_told(rt: HostRuntime) {
-    let alloc = rt.alloc();
-    for command in [
+const NUMBER_TOLD: &str = concat!(
+    "numbers: 1 changed\nnulls: 1 changed\n: missing member @type\n",
+    "reason 2 (missing member): steps that may fix it: class-names; otherwise ask the vendor: ",
+    "Write the member that is missing. The standard requires it.\n",
+);
+
+const NULL: &str = r#"{"a":null}"#;
+
+const NULL_DONE: &str =
+    "[{\"changes\":[{\"before\":null,\"place\":[\"a\"]}],\"count\":1,\"done\":true,\"left\":[],\"left_count\":0,\"more\":false,\"step\":\"nulls\"}]\n";
+
+const NULL_FOUND: &str =
+    "[{\"changes\":[{\"before\":null,\"place\":[\"a\"]}],\"count\":1,\"done\":false,\"left\":[],\"left_count\":0,\"more\":false,\"step\":\"nulls\"}]\n";
+
+const NOT_JSON: &str = "not JSON\n";
+
+// A command, the file that it reads, how it ends, and what it writes to standard output and to standard error.
+type Row = (
+    Command<'static>,
+    &'static str,
+    Outcome,
+    &'static str,
+    &'static str,
+);
+
+const ROWS: &[Row] = &[
+    (
         Command::Prepare(CHOSEN),
-        Command::List,
-        Command::Report(CHOSEN),
-    ] {
-        assert!(rt; wrote(alloc, command, "{", Outcome::NotJson, "", "not JSON\n"));
+        OFFICES,
+        Outcome::Bad,
+        PREPARED,
+        DONE,
+    ),
+    (
+        Command::Prepare(&[StepName::Names]),
+        NAMELESS,
+        Outcome::Bad,
+        NAMELESS,
+        LEFT,
+    ),
+    (
+        Command::Prepare(&[]),
+        NAMELESS,
+        Outcome::Bad,
+        NAMELESS,
+        FAULTS,
+    ),
+    (
+        Command::Prepare(CHOSEN),
+        NUMBER,
+        Outcome::Bad,
+        r#"{"a":1.5}"#,
+        NUMBER_TOLD,
+    ),
+    (
+        Command::Prepare(CHOSEN),
+        "{",
+        Outcome::NotJson,
+        "",
+        NOT_JSON,
+    ),
+    (Command::List, OFFICES, Outcome::Good, LISTED, ""),
+    (Command::List, "{}", Outcome::Good, "", ""),
+    (Command::List, "{", Outcome::NotJson, "", NOT_JSON),
+    (Command::Report(CHOSEN), NULL, Outcome::Good, NULL_DONE, ""),
+    (Command::Report(&[]), NULL, Outcome::Good, NULL_FOUND, ""),
+    (Command::Report(CHOSEN), "{", Outcome::NotJson, "", NOT_JSON),
+];
+
+fn is_written(alloc: Global, row: &Row) -> Result<bool, AllocError> {
+    let (command, file, outcome, out, err) = row;
+    let file = spelled(alloc, file)?;
+    let out = spelled(alloc, out)?;
+    Ok(wrote(alloc, *command, &file, *outcome, &out, err))
+}
+
+#[test]
+fn each_row_is_written(rt: HostRuntime) -> Result<(), Fail> {
+    for (index, row) in ROWS.iter().enumerate() {
+        assert!(rt; is_written(rt.alloc(), row)?, "row {index}");
     }
+    Ok(())
 }
 
 // A run whose read after this many reads fails, and that writes nothing then.

@@ -20,7 +20,7 @@ use std::test::Fail;
 
 // A report, and what is told of it.
 #[derive(Clone, Copy)]
-pub struct Asked<'a> {
+pub struct Checked<'a> {
     pub report: &'a [u8],
     // `accepted`, its fault lines or `not JSON`, each with a line feed.
     pub lines: &'a str,
@@ -29,7 +29,7 @@ pub struct Asked<'a> {
     pub under: Under<'a>,
 }
 
-pub fn by_check_bytes(alloc: Global, asked: &Asked) -> Answer {
+pub fn by_check_bytes(alloc: Global, asked: &Checked) -> Answer {
     let found = if asked.under.takes_preference {
         check_bytes_with(alloc, asked.report, asked.under.prefer)
     } else {
@@ -41,7 +41,7 @@ pub fn by_check_bytes(alloc: Global, asked: &Asked) -> Answer {
     }
 }
 
-fn by_run_check(alloc: Global, asked: &Asked) -> Answer {
+fn by_run_check(alloc: Global, asked: &Checked) -> Answer {
     let out = ExpectedWriter::of(asked.lines);
     let run = check_run(alloc, asked.under, asked.report, out);
     let (is_whole, is_nothing) = (run.out.writer.is_whole(), run.out.writer.is_unused());
@@ -49,7 +49,7 @@ fn by_run_check(alloc: Global, asked: &Asked) -> Answer {
 }
 
 // Whether the canonical form of an accepted report is not asked for.
-fn is_form_unasked(asked: &Asked) -> bool {
+fn is_form_unasked(asked: &Checked) -> bool {
     asked.lines == ACCEPTED && asked.form.is_empty()
 }
 
@@ -62,14 +62,14 @@ pub fn form_of(alloc: Global, bytes: &[u8], under: Under) -> Result<Vec<u8>, Ref
     }
 }
 
-fn by_canonical(alloc: Global, asked: &Asked) -> Answer {
+fn by_canonical(alloc: Global, asked: &Checked) -> Answer {
     match form_of(alloc, asked.report, asked.under) {
         Ok(text) => right_if(is_form_unasked(asked) || text.as_slice() == asked.form.as_bytes()),
         Err(refusal) => refused(alloc, "", &refusal, asked.lines),
     }
 }
 
-fn by_run_canon(alloc: Global, asked: &Asked) -> Answer {
+fn by_run_canon(alloc: Global, asked: &Checked) -> Answer {
     if is_form_unasked(asked) {
         return Answer::Right;
     }
@@ -97,7 +97,7 @@ pub fn tree_of(alloc: Global, bytes: &[u8]) -> Result<Value, Refusal>
 }
 
 // The faults of the shape are all that is told of the report, or there are none.
-fn by_faults(alloc: Global, asked: &Asked) -> Answer {
+fn by_faults(alloc: Global, asked: &Checked) -> Answer {
     let tree = match tree_of(alloc, asked.report) {
         Ok(tree) => tree,
         Err(refusal) => return refused(alloc, "", &refusal, asked.lines),
@@ -112,7 +112,7 @@ fn by_faults(alloc: Global, asked: &Asked) -> Answer {
 // Calls `then` on the report of these bytes.
 pub fn on_report<F: FnOnce(&Report) -> Answer>(
     alloc: Global,
-    asked: &Asked,
+    asked: &Checked,
     then: F,
 ) -> Result<Answer, Refusal>
     requires { F.IsAlwaysCallable then }
@@ -127,7 +127,7 @@ pub fn on_report<F: FnOnce(&Report) -> Answer>(
     Ok(then(&report))
 }
 
-fn by_resolve(alloc: Global, asked: &Asked) -> Answer {
+fn by_resolve(alloc: Global, asked: &Checked) -> Answer {
     match on_report(alloc, asked, |report| of_report(alloc, report, asked)) {
         Ok(answer) if asked.lines == ACCEPTED => answer,
         Ok(_) => Answer::Wrong,
@@ -136,7 +136,7 @@ fn by_resolve(alloc: Global, asked: &Asked) -> Answer {
 }
 
 // Whether the report has its preference, equal copies of its names, and the right canonical form.
-fn of_report(alloc: Global, report: &Report, asked: &Asked) -> Answer {
+fn of_report(alloc: Global, report: &Report, asked: &Checked) -> Answer {
     if report.preference() != asked.under.prefer {
         return Answer::Wrong;
     }
@@ -177,7 +177,7 @@ fn copies(alloc: Global, report: &Report) -> Answer {
 }
 
 // Tries each call, with each of its requests for memory refused.
-pub fn each_report_call(alloc: Global, name: &str, asked: &Asked) -> Result<(), Fail> {
+pub fn each_report_call(alloc: Global, name: &str, asked: &Checked) -> Result<(), Fail> {
     each_refused(alloc, name, |alloc| by_check_bytes(alloc, asked))?;
     each_refused(alloc, name, |alloc| by_run_check(alloc, asked))?;
     each_refused(alloc, name, |alloc| by_canonical(alloc, asked))?;

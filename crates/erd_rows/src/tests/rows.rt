@@ -3,7 +3,7 @@
 use crate::tests::answers::{ACCEPTED, SAME};
 use crate::tests::edits::{Edit, Edited, changed, made};
 use crate::tests::pair_calls::{Compared, each_pair_call};
-use crate::tests::report_calls::{Asked, each_report_call};
+use crate::tests::report_calls::{Checked, each_report_call};
 use crate::tests::runs::{PLAIN, Under};
 use std::alloc::{AllocError, Global};
 use std::test::Fail;
@@ -86,7 +86,7 @@ fn lines_are(
     report: &str,
     lines: &str,
 ) -> Result<(), Fail> {
-    let asked = Asked {
+    let asked = Checked {
         report: report.as_bytes(),
         lines,
         form: "",
@@ -104,7 +104,7 @@ pub fn form_is<'a>(
     form: &'a str,
 ) -> Result<(), Fail> {
     for text in [report, form] {
-        let asked = Asked {
+        let asked = Checked {
             report: text.as_bytes(),
             lines: ACCEPTED,
             form,
@@ -127,9 +127,9 @@ fn under_each<F: Fn(Under) -> Result<(), Fail>>(under: Under, then: F) -> Result
 }
 
 // Tries each call on one report. Without a preference, these are also the calls that take none.
-pub fn tell(alloc: Global, name: &str, asked: Asked) -> Result<(), Fail> {
+pub fn tell(alloc: Global, name: &str, asked: Checked) -> Result<(), Fail> {
     under_each(asked.under, |under| {
-        each_report_call(alloc, name, &Asked { under, ..asked })
+        each_report_call(alloc, name, &Checked { under, ..asked })
     })
 }
 

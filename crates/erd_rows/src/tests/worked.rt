@@ -1,7 +1,7 @@
 //! The worked rows, by their tables, and rows that are made here. Some are tried with each request for memory refused.
 use crate::tests::answers::{Answer, NOT_JSON};
 use crate::tests::edits::{Base, edited, made, spelled};
-use crate::tests::report_calls::{Asked, by_check_bytes};
+use crate::tests::report_calls::{Checked, by_check_bytes};
 use crate::tests::rows::{form_is, is_itself, taking, tell};
 use crate::tests::runs::PLAIN;
 use crate::tests::vectors::{ONE_UNIT, SMALL_BALLOT, SMALL_BALLOT_CANONICAL};
@@ -77,7 +77,7 @@ fn refused_elections(rt: HostRuntime) -> Result<(), Fail> {
 // The byte FF occurs in no UTF-8 text.
 #[test]
 fn not_text(rt: HostRuntime) -> Result<(), Fail> {
-    let asked = Asked {
+    let asked = Checked {
         report: b"\xff",
         lines: NOT_JSON,
         form: "",
@@ -88,7 +88,7 @@ fn not_text(rt: HostRuntime) -> Result<(), Fail> {
 
 // The bytes are not JSON. This asks only `check_bytes`, which is the fastest call.
 fn is_no_json(alloc: Global, report: &[u8]) -> bool {
-    let asked = Asked {
+    let asked = Checked {
         report,
         lines: NOT_JSON,
         form: "",

@@ -1,5 +1,5 @@
 -- Which line of one ballot is which line of another, and the lines of a ballot.
-use Rattle.erd_shown.proofs.Common.{◌≡◌, ℕ, [], ◌∷◌, ◌==◌, map, Some, None, codes, refl, Data, tree_of}
+use Rattle.erd_shown.proofs.Common.{◌≡◌, ℕ, [], ◌∷◌, ◌++◌, ◌==◌, map, Some, None, codes, refl, Data, tree_of}
 unfoldable use Rattle.erd_shown.proofs.Common.{serde_json_on_literals}
 use Rattle.erd_shown.specs.Lines.{content_lines}
 use Rattle.erd_shown.specs.Partners.{occurrences, partners}
@@ -17,7 +17,10 @@ back : partners ◌==◌ (9 ∷ 7 ∷ 7 ∷ 7 ∷ []) (7 ∷ 8 ∷ 7 ∷ []) ≡
 back = refl
 
 -- what stands inside a header comes behind it, one deeper
-inside_a_header : map (λ (l : ℕ × Data). l.0) (content_lines 0 (tree_of (codes "[{\"@type\":\"ElectionResults.OrderedHeader\",\"HeaderId\":\"h\",\"OrderedContent\":[{\"@type\":\"ElectionResults.OrderedContest\",\"ContestId\":\"c\"}]},{\"@type\":\"ElectionResults.OrderedContest\",\"ContestId\":\"d\"}]")))
+inside_a_header : map (λ (l : ℕ × Data). l.0) (content_lines 0 (tree_of
+    (codes "[{\"@type\":\"ElectionResults.OrderedHeader\",\"HeaderId\":\"h\""
+    ++ codes ",\"OrderedContent\":[{\"@type\":\"ElectionResults.OrderedContest\",\"ContestId\":\"c\"}]}"
+    ++ codes ",{\"@type\":\"ElectionResults.OrderedContest\",\"ContestId\":\"d\"}]")))
     ≡ 0 ∷ 1 ∷ 0 ∷ []
 unfolding serde_json_on_literals
 inside_a_header = refl

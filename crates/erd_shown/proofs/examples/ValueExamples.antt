@@ -1,5 +1,6 @@
 -- What members mean as JSON.
-use Rattle.erd_shown.proofs.Common.{◌≡◌, Bool, true, false, [], ◌∷◌, Some, None, codes, refl, null, boolean, string, array, object, no_items, no_members, member, is_same_json, json_set, kind, family, tree_of, fun_ext}
+use Rattle.erd_shown.proofs.Common.{◌≡◌, Bool, true, false, [], ◌∷◌, Some, None, codes, refl, null, boolean, string, array, object, no_items, no_members}
+use Rattle.erd_shown.proofs.Common.{member, is_same_json, json_set, kind, family, tree_of, fun_ext}
 unfoldable use Rattle.erd_shown.proofs.Common.{serde_json_on_literals}
 use Rattle.std.specs.Prelude.{◌||◌}
 use Rattle.erd_shown.specs.KeyData.{array_of}
@@ -7,7 +8,8 @@ use Rattle.erd_shown.specs.ContentData.{content_data}
 use Rattle.erd_shown.specs.Shown.{set_data, shown_value}
 
 -- an empty array of the table means nothing, and `false` is something
-nothing_and_false : (shown_value None null (kind.Many family.Party) (array no_items) ≡ None) × (shown_value None null kind.Flag (boolean false) ≡ Some (boolean false))
+nothing_and_false : (shown_value None null (kind.Many family.Party) (array no_items) ≡ None)
+    × (shown_value None null kind.Flag (boolean false) ≡ Some (boolean false))
 nothing_and_false = (refl, refl)
 
 -- a reference that names nothing is null, as a missing key is
@@ -21,7 +23,9 @@ set_rises = refl
 
 -- a contest on a ballot, with a member that it carries
 contest_there : content_data None null (tree_of (codes "[{\"@type\":\"ElectionResults.OrderedContest\",\"ContestId\":\"c\",\"Note\":true}]"))
-    ≡ array_of (object (member (codes "carried") (object (member (codes "Note") (boolean true) no_members)) (member (codes "contest") null (member (codes "selections") (array no_items) no_members))) ∷ [])
+    ≡ array_of
+    (object (member (codes "carried") (object (member (codes "Note") (boolean true) no_members))
+    (member (codes "contest") null (member (codes "selections") (array no_items) no_members))) ∷ [])
 unfolding serde_json_on_literals
 contest_there = refl
 

@@ -1,5 +1,11 @@
 -- Texts that are written for strings, and compact texts of values whose numbers fit: they tell the values.
-use Rattle.erd_shown.proofs.Common.{◌≡◌, ℕ, zero, suc, ◌+◌, ◌-◌, ◌<◌, ◌≤◌, cond, ◌||◌, List, [], ◌∷◌, ◌++◌, nat_lt, ◌==◌, Some, None, Option, option_map, flat_map, unwrap_or, sym, refl, ap, ◌∙◌, subst, ap₂, inl, inr, append_assoc, arith, ne_eqb, string, compact_text, serde_json_on_literals, ◌*◌, ◌/◌, ◌%◌, le-ltb, cases_lt, cases_eq, ◌^◌, Bool, true, false, not, ◌&&◌, length, get_or, drop, pos, negsuc, true≢false, eqb-false, and_from, AllByRecursion, Data, null, boolean, array, object, Items, no_items, item, Members, no_members, member, comma_if, items_text, members_text, Num, unsigned, negative, float, number, number_of, decimal, lt-ltb, decimal_is_IsNumeral, decimal_nonempty, number_text, IsFittingNumber, HasFittingNumbers, ItemsHaveFittingNumbers, MembersHaveFittingNumbers, get_member, get_item, Within, Asked, found_cases, within-holds}
+use Rattle.erd_shown.proofs.Common.{◌≡◌, ℕ, zero, suc, ◌+◌, ◌-◌, ◌<◌, ◌≤◌, cond, ◌||◌, List, [], ◌∷◌, ◌++◌, nat_lt, ◌==◌, Some, None, Option, option_map}
+use Rattle.erd_shown.proofs.Common.{flat_map, unwrap_or, sym, refl, ap, ◌∙◌, subst, ap₂, inl, inr, append_assoc, arith, ne_eqb, string, compact_text}
+use Rattle.erd_shown.proofs.Common.{serde_json_on_literals, ◌*◌, ◌/◌, ◌%◌, le-ltb, cases_lt, cases_eq, ◌^◌, Bool, true, false, not, ◌&&◌, length, get_or, drop}
+use Rattle.erd_shown.proofs.Common.{pos, negsuc, true≢false, eqb-false, and_from, AllByRecursion, Data, null, boolean, array, object, Items, no_items, item}
+use Rattle.erd_shown.proofs.Common.{Members, no_members, member, comma_if, items_text, members_text, Num, unsigned, negative, float, number, number_of, decimal}
+use Rattle.erd_shown.proofs.Common.{lt-ltb, decimal_is_IsNumeral, decimal_nonempty, number_text, IsFittingNumber, HasFittingNumbers, ItemsHaveFittingNumbers}
+use Rattle.erd_shown.proofs.Common.{MembersHaveFittingNumbers, get_member, get_item, Within, Asked, found_cases, within-holds}
 use Rattle.std.specs.Char.{digit_char}
 use Rattle.std.proofs.lemmas.Str.Parse.{digit_at}
 use Rattle.serde_json.proofs.Numbers.{number_of-decimal, number_of-negative}
@@ -56,11 +62,92 @@ each_sound P zero h x lt = absurd (omega arith)
 each_sound P (suc n) h x lt = elim (cases_eq x n) [ inl e ↦ subst P (sym e) h.0 | inr ne ↦ each_sound P n h.1 x (omega arith) ]
 
 controls : Each Reads 32
-controls = (λ u. refl, (λ u. refl, (λ u. refl, (λ u. refl, (λ u. refl, (λ u. refl, (λ u. refl, (λ u. refl, (λ u. refl, (λ u. refl, (λ u. refl, (λ u. refl, (λ u. refl, (λ u. refl, (λ u. refl, (λ u. refl, (λ u. refl, (λ u. refl, (λ u. refl, (λ u. refl, (λ u. refl, (λ u. refl, (λ u. refl, (λ u. refl, (λ u. refl, (λ u. refl, (λ u. refl, (λ u. refl, (λ u. refl, (λ u. refl, (λ u. refl, (λ u. refl, tt))))))))))))))))))))))))))))))))
+controls = (
+  λ u. refl,
+  (
+    λ u. refl,
+    (
+      λ u. refl,
+      (
+        λ u. refl,
+        (
+          λ u. refl,
+          (
+            λ u. refl,
+            (
+              λ u. refl,
+              (
+                λ u. refl,
+                (
+                  λ u. refl,
+                  (
+                    λ u. refl,
+                    (
+                      λ u. refl,
+                      (
+                        λ u. refl,
+                        (
+                          λ u. refl,
+                          (
+                            λ u. refl,
+                            (
+                              λ u. refl,
+                              (
+                                λ u. refl,
+                                (
+                                  λ u. refl,
+                                  (
+                                    λ u. refl,
+                                    (
+                                      λ u. refl,
+                                      (
+                                        λ u. refl,
+                                        (
+                                          λ u. refl,
+                                          (
+                                            λ u. refl,
+                                            (
+                                              λ u. refl,
+                                              (
+                                                λ u. refl,
+                                                (λ u. refl, (λ u. refl, (λ u. refl, (λ u. refl, (λ u. refl, (λ u. refl, (λ u. refl, (λ u. refl, tt)))))))),
+                                              ),
+                                            ),
+                                          ),
+                                        ),
+                                      ),
+                                    ),
+                                  ),
+                                ),
+                              ),
+                            ),
+                          ),
+                        ),
+                      ),
+                    ),
+                  ),
+                ),
+              ),
+            ),
+          ),
+        ),
+      ),
+    ),
+  ),
+)
 
 plain_byte : (x : ℕ) → (x ≡ 34 → ⊥) → (x ≡ 92 → ⊥) → 32 ≤ x → written_byte x ≡ x ∷ []
 plain_byte x q b l =
-    rw (ne_eqb x 34 q, ne_eqb x 92 b, ne_eqb x 8 (λ e. omega arith), ne_eqb x 12 (λ e. omega arith), ne_eqb x 10 (λ e. omega arith), ne_eqb x 13 (λ e. omega arith), ne_eqb x 9 (λ e. omega arith), le-ltb x 32 l)
+    rw (
+      ne_eqb x 34 q,
+      ne_eqb x 92 b,
+      ne_eqb x 8 (λ e. omega arith),
+      ne_eqb x 12 (λ e. omega arith),
+      ne_eqb x 10 (λ e. omega arith),
+      ne_eqb x 13 (λ e. omega arith),
+      ne_eqb x 9 (λ e. omega arith),
+      le-ltb x 32 l,
+    )
 
 plain_reads : (x : ℕ) → (x ≡ 34 → ⊥) → (x ≡ 92 → ⊥) → 32 ≤ x → Reads x
 plain_reads x q b l u = ap (λ w. byte_read (w ++ u)) (plain_byte x q b l) ∙ rw (ne_eqb x 34 q, ne_eqb x 92 b)
@@ -87,7 +174,8 @@ bytes_exact [] [] r q e = let h : r ≡ q = cc in (refl, h)
 bytes_exact [] (y ∷ t) r q e = absurd (clash (y, flat_map written_byte t ++ 34 ∷ q) (ap byte_read e ∙ first_read y t (34 ∷ q)))
 bytes_exact (x ∷ s) [] r q e = absurd (clash (x, flat_map written_byte s ++ 34 ∷ r) (sym (ap byte_read e) ∙ first_read x s (34 ∷ r)))
 bytes_exact (x ∷ s) (y ∷ t) r q e =
-    let h : Some (x, flat_map written_byte s ++ 34 ∷ r) ≡ Some (y, flat_map written_byte t ++ 34 ∷ q) = sym (first_read x s (34 ∷ r)) ∙ ap byte_read e ∙ first_read y t (34 ∷ q) in
+    let h : Some (x, flat_map written_byte s ++ 34 ∷ r) ≡ Some (y, flat_map written_byte t ++ 34 ∷ q) =
+    sym (first_read x s (34 ∷ r)) ∙ ap byte_read e ∙ first_read y t (34 ∷ q) in
     let first : x ≡ y = ap (λ o. unwrap_or (option_map (λ p. p.0) o) x) h in
     let rest : flat_map written_byte s ++ 34 ∷ r ≡ flat_map written_byte t ++ 34 ∷ q = ap (λ o. unwrap_or (option_map (λ p. p.1) o) []) h in
     let more = bytes_exact s t r q rest in
@@ -129,7 +217,8 @@ is_ended (b ∷ r) = not (in_number b)
 ended_not : (b : ℕ) → in_number b ≡ true → not (in_number b) ≡ true → ⊥
 ended_not b e g = true≢false (sym g ∙ ap not e)
 
-run_exact : (xs ys r q : List ℕ) → AllByRecursion (λ b. in_number b ≡ true) xs → AllByRecursion (λ b. in_number b ≡ true) ys → is_ended r ≡ true → is_ended q ≡ true → xs ++ r ≡ ys ++ q → (xs ≡ ys) × (r ≡ q)
+run_exact : (xs ys r q : List ℕ) → AllByRecursion (λ b. in_number b ≡ true) xs → AllByRecursion (λ b. in_number b ≡ true) ys → is_ended r ≡ true → is_ended q
+    ≡ true → xs ++ r ≡ ys ++ q → (xs ≡ ys) × (r ≡ q)
 run_exact [] [] r q h k e g same = (refl, same)
 run_exact [] (y ∷ ys) r q h k e g same = absurd (ended_not y k.0 (sym (ap is_ended same) ∙ e))
 run_exact (x ∷ xs) [] r q h k e g same = absurd (ended_not x h.0 (ap is_ended same ∙ g))
@@ -218,7 +307,8 @@ members_ended no_members r = refl
 members_ended (member k d ms) r = refl
 
 mutual
-  value_exact : (d e : Data) (r q : List ℕ) → HasFittingNumbers d → HasFittingNumbers e → is_ended r ≡ true → is_ended q ≡ true → compact_text d ++ r ≡ compact_text e ++ q → (d ≡ e) × (r ≡ q)
+  value_exact : (d e : Data) (r q : List ℕ) → HasFittingNumbers d → HasFittingNumbers e → is_ended r ≡ true → is_ended q ≡ true → compact_text d ++ r
+      ≡ compact_text e ++ q → (d ≡ e) × (r ≡ q)
   value_exact null null r q h k f g same = (refl, ap (drop 4) same)
   value_exact (boolean true) (boolean true) r q h k f g same = (refl, ap (drop 4) same)
   value_exact (boolean false) (boolean false) r q h k f g same = (refl, ap (drop 5) same)
@@ -238,7 +328,8 @@ mutual
       (ap object x.0, x.1)
   value_exact d e r q h k f g same = absurd (eqb-false (sign_of d) (sign_of e) refl (same_sign d e r q h k same))
 
-  items_exact : (later : Bool) (ds es : Items) (r q : List ℕ) → ItemsHaveFittingNumbers ds → ItemsHaveFittingNumbers es → items_text later ds ++ r ≡ items_text later es ++ q → (ds ≡ es) × (r ≡ q)
+  items_exact : (later : Bool) (ds es : Items) (r q : List ℕ) → ItemsHaveFittingNumbers ds → ItemsHaveFittingNumbers es → items_text later ds ++ r
+      ≡ items_text later es ++ q → (ds ≡ es) × (r ≡ q)
   items_exact later no_items no_items r q h k same = (refl, ap (drop 1) same)
   items_exact later no_items (item e es) r q h k same = absurd (not_over later e es r q k.0 same)
   items_exact later (item d ds) no_items r q h k same = absurd (not_over later d ds q r h.0 (sym same))
@@ -249,7 +340,8 @@ mutual
       let rest = items_exact true ds es r q h.1 k.1 first.1 in
       (ap₂ item first.0 rest.0, rest.1)
 
-  members_exact : (later : Bool) (ms ns : Members) (r q : List ℕ) → MembersHaveFittingNumbers ms → MembersHaveFittingNumbers ns → members_text later ms ++ r ≡ members_text later ns ++ q → (ms ≡ ns) × (r ≡ q)
+  members_exact : (later : Bool) (ms ns : Members) (r q : List ℕ) → MembersHaveFittingNumbers ms → MembersHaveFittingNumbers ns → members_text later ms ++ r
+      ≡ members_text later ns ++ q → (ms ≡ ns) × (r ≡ q)
   members_exact later no_members no_members r q h k same = (refl, ap (drop 1) same)
   members_exact later no_members (member b e ns) r q h k same = absurd (no_more_members later b e ns r q same)
   members_exact later (member a d ms) no_members r q h k same = absurd (no_more_members later a d ms q r (sym same))
@@ -257,7 +349,8 @@ mutual
       let mine = 58 ∷ (compact_text d ++ members_text true ms) in
       let its = 58 ∷ (compact_text e ++ members_text true ns) in
       let here = no_comma later (compact_text (string a) ++ mine) (compact_text (string b) ++ its) r q same in
-      let names = string_exact a b (mine ++ r) (its ++ q) (sym (append_assoc (compact_text (string a)) mine r) ∙ here ∙ append_assoc (compact_text (string b)) its q) in
+      let names =
+      string_exact a b (mine ++ r) (its ++ q) (sym (append_assoc (compact_text (string a)) mine r) ∙ here ∙ append_assoc (compact_text (string b)) its q) in
       let after : (compact_text d ++ members_text true ms) ++ r ≡ (compact_text e ++ members_text true ns) ++ q = ap (drop 1) names.1 in
       let first = value_exact d e (members_text true ms ++ r) (members_text true ns ++ q) h.0 k.0 (members_ended ms r) (members_ended ns q)
       (sym (append_assoc (compact_text d) (members_text true ms) r) ∙ after ∙ append_assoc (compact_text e) (members_text true ns) q) in
@@ -272,7 +365,8 @@ compact_exact a b h k e = (value_exact a b [] [] h k refl refl (ap (λ s. s ++ [
 
 pub get_member-fitting : (k : List ℕ) (v : Data) (ms : Members) → MembersHaveFittingNumbers ms → get_member k ms ≡ Some v → HasFittingNumbers v
 get_member-fitting k v no_members h e = cc
-get_member-fitting k v (member l d ms) h e = found_cases k l v d ms e (λ name same. subst HasFittingNumbers same h.0) (λ found. get_member-fitting k v ms h.1 found)
+get_member-fitting k v (member l d ms) h e = found_cases k l v d ms e (λ name same. subst HasFittingNumbers same h.0)
+    (λ found. get_member-fitting k v ms h.1 found)
 
 get_item-fitting : (i : ℕ) (v : Data) (ds : Items) → ItemsHaveFittingNumbers ds → get_item i ds ≡ Some v → HasFittingNumbers v
 get_item-fitting i v no_items h e = cc

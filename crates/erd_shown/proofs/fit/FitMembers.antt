@@ -1,13 +1,30 @@
 -- In an accepted report the members of objects are as the laws ask: no key and no entry stands twice in a set, a label has its
 -- class, and the numbers in names fit 64 bits.
-use Rattle.erd_shown.proofs.Common.{◌≡◌, ℕ, zero, suc, Bool, true, false, List, [], ◌∷◌, map, pos, negsuc, Some, None, Option, codes, option_map, option_and_then, filter_map, bytes_eq, is_eq, Equal, sym, refl, ap, ap₂, ◌∙◌, subst, lt-ltb, exact_bytes, Equal-is, Ordering, option_cmp, eq_by_cmp, AllByRecursion, list_all, unsigned, negative, float, Data, null, boolean, number, string, array, object, Items, no_items, item, Members, no_members, member, get_member, get_item, get, as_str, as_number, as_integer, has_float, items_have_float, members_have_float, compact_text, text_of_class, role_of_class, rows_of_class, kind_of_member, is_required, kind_of_identity, Class, class, Family, family, Role, role, reason, MemberKind, kind, Step, At, string_from_text, array_from, list_of_items-place, In, all_from_In, in_at, Within, Within-step, not_within, faultless, wanted_within, member_within, within-tree, classed, Classed, of_label, object_in, ObjectIn, ObjectAt, kind_of_class, want_by_kind, text_exact, text_itself, ShapeFault, NoneOf, IsTree, is_same_json, list_of_items, entries_of, entries_at, class_of_object, member_want, is_compared_set, asked, is_repeated, Member, Reference, Object, has_wanted_kind, IsAccepted, Preference, has_keys, key_cmp, key_of, key_named, keys_named, is_reference_fault, no_shape_fault, no_reference_fault, resolves, owned_by, one_keyed, key_cmp_exact, Key, NameParts, Placed, objects, contests, selections_of_contest, owner, id_of, stands, unrepeated_by_cmp, and_then-Some, HasFittingNumbers, ItemsHaveFittingNumbers, MembersHaveFittingNumbers, order_of_selection, name_of, kind_of_type, is_selections, selections_kind, selections_name, selections_family, selection_role, name_in_class, name_cmp, name_cmp_exact, want_of_kind, is_word, Want, IsTrue, In-flat_map, In-map_from, distinct_from_one_place, distinct_map, one_named, values-placed_entries, placed_from, true≢false, slice_get, ◌+◌, ◌++◌, arith}
+use Rattle.erd_shown.proofs.Common.{◌≡◌, ℕ, zero, suc, Bool, true, false, List, [], ◌∷◌, map, pos, negsuc, Some, None, Option, codes, option_map}
+use Rattle.erd_shown.proofs.Common.{option_and_then, filter_map, bytes_eq, is_eq, Equal, sym, refl, ap, ap₂, ◌∙◌, subst, lt-ltb, exact_bytes, Equal-is}
+use Rattle.erd_shown.proofs.Common.{Ordering, option_cmp, eq_by_cmp, AllByRecursion, list_all, unsigned, negative, float, Data, null, boolean, number, string}
+use Rattle.erd_shown.proofs.Common.{array, object, Items, no_items, item, Members, no_members, member, get_member, get_item, get, as_str, as_number, as_integer}
+use Rattle.erd_shown.proofs.Common.{has_float, items_have_float, members_have_float, compact_text, text_of_class, role_of_class, rows_of_class, kind_of_member}
+use Rattle.erd_shown.proofs.Common.{is_required, kind_of_identity, Class, class, Family, family, Role, role, reason, MemberKind, kind, Step, At}
+use Rattle.erd_shown.proofs.Common.{string_from_text, array_from, list_of_items-place, In, all_from_In, in_at, Within, Within-step, not_within, faultless}
+use Rattle.erd_shown.proofs.Common.{wanted_within, member_within, within-tree, classed, Classed, of_label, object_in, ObjectIn, ObjectAt, kind_of_class}
+use Rattle.erd_shown.proofs.Common.{want_by_kind, text_exact, text_itself, ShapeFault, NoneOf, IsTree, is_same_json, list_of_items, entries_of, entries_at}
+use Rattle.erd_shown.proofs.Common.{class_of_object, member_want, is_compared_set, asked, is_repeated, Member, Reference, Object, has_wanted_kind, IsAccepted}
+use Rattle.erd_shown.proofs.Common.{Preference, has_keys, key_cmp, key_of, key_named, keys_named, is_reference_fault, no_shape_fault, no_reference_fault}
+use Rattle.erd_shown.proofs.Common.{resolves, owned_by, one_keyed, key_cmp_exact, Key, NameParts, Placed, objects, contests, selections_of_contest, owner}
+use Rattle.erd_shown.proofs.Common.{id_of, stands, unrepeated_by_cmp, and_then-Some, HasFittingNumbers, ItemsHaveFittingNumbers, MembersHaveFittingNumbers}
+use Rattle.erd_shown.proofs.Common.{order_of_selection, name_of, kind_of_type, is_selections, selections_kind, selections_name, selections_family}
+use Rattle.erd_shown.proofs.Common.{selection_role, name_in_class, name_cmp, name_cmp_exact, want_of_kind, is_word, Want, IsTrue, In-flat_map, In-map_from}
+use Rattle.erd_shown.proofs.Common.{distinct_from_one_place, distinct_map, one_named, values-placed_entries, placed_from, true≢false, slice_get, ◌+◌, ◌++◌}
+use Rattle.erd_shown.proofs.Common.{arith}
 unfoldable use Rattle.erd_shown.proofs.Common.{IsDistinct}
 use Rattle.std.specs.Option.{option_map_or}
 use Rattle.erd_check.specs.Wants.{entry_want_of_kind}
 use Rattle.erd_text.specs.RisingLists.{compact_cmp}
 use Rattle.erd_shown.proofs.fit.ExactTexts.{compact_exact, get_member-fitting, within-fitting}
 use Rattle.erd_shown.proofs.told.JsonSets.{itself}
-use Rattle.erd_shown.specs.code.Fitting.{AreDistinctKeys, AreFit, AreFitMembers, AreSelections, HasFittingNames, HasFittingOrder, IsFit, IsFitMember, IsLabel, IsSelection, IsSet, IsWholeTree, a_text, an_object}
+use Rattle.erd_shown.specs.code.Fitting.{AreDistinctKeys, AreFit, AreFitMembers, AreSelections, HasFittingNames, HasFittingOrder, IsFit, IsFitMember, IsLabel}
+use Rattle.erd_shown.specs.code.Fitting.{IsSelection, IsSet, IsWholeTree, a_text, an_object}
 
 abbrev pub is_family_role : Role → Bool
 is_family_role (role.OfFamily f) = true
@@ -59,11 +76,13 @@ distinct_keys_at : (key : Data → Option Key) (k : Key) (ds : List Data) → Al
 distinct_keys_at key k [] all = tt
 distinct_keys_at key k (d ∷ ds) all = at (key d) refl (distinct_keys_at key k ds all.1)
   where
-    at : (o : Option Key) → key d ≡ o → AllByRecursion (λ l. eq_by_cmp key_cmp k l ≡ false) (filter_map key ds) → AllByRecursion (λ l. eq_by_cmp key_cmp k l ≡ false) (filter_map key (d ∷ ds))
+    at : (o : Option Key) → key d ≡ o → AllByRecursion (λ l. eq_by_cmp key_cmp k l ≡ false) (filter_map key ds)
+        → AllByRecursion (λ l. eq_by_cmp key_cmp k l ≡ false) (filter_map key (d ∷ ds))
     at None e rest = rw e rest
     at (Some l) e rest = rw e (ap (eq_by_cmp (option_cmp key_cmp) (Some k)) (sym e) ∙ all.0, rest)
 
-distinct_keys : (key : Data → Option Key) (ds : List Data) → IsDistinct (eq_by_cmp (λ d e. option_cmp key_cmp (key d) (key e))) ds → AreDistinctKeys (filter_map key ds)
+distinct_keys : (key : Data → Option Key) (ds : List Data) → IsDistinct (eq_by_cmp (λ d e. option_cmp key_cmp (key d) (key e))) ds
+    → AreDistinctKeys (filter_map key ds)
 unfolding IsDistinct
 distinct_keys key [] all = tt
 distinct_keys key (d ∷ ds) all = at (key d) refl (distinct_keys key ds all.1)
@@ -78,18 +97,22 @@ module _ (π : Preference) (t : Data) (accepted : IsAccepted π t) (tree : IsTre
 
   -- ---- sets of JSON values
 
-  set_entry : (k : MemberKind) (r : Bool) (o : Role) (ds : Items) → entry_want_of_kind k ≡ Some (Object o) → is_compared_set (Member k r) ≡ true → Within t (asked (Member k r) (array ds))
+  set_entry : (k : MemberKind) (r : Bool) (o : Role) (ds : Items) → entry_want_of_kind k ≡ Some (Object o) → is_compared_set (Member k r) ≡ true
+      → Within t (asked (Member k r) (array ds))
       → (i : ℕ) (d : Data) → get_item i ds ≡ Some d → Within t (record { want = Object o; value = d; repeated = is_repeated ds i d })
-  set_entry k r o ds want set w i d e = Within-step t (asked (Member k r) (array ds)) (record { want = Object o; value = d; repeated = is_repeated ds i d }) (At i) w (rw (want, set, e) refl)
+  set_entry k r o ds want set w i d e = Within-step t (asked (Member k r) (array ds)) (record { want = Object o; value = d; repeated = is_repeated ds i d })
+      (At i) w (rw (want, set, e) refl)
 
   first_entry : (o : Role) (d : Data) (b : Bool) → Within t (record { want = Object o; value = d; repeated = b }) → b ≡ false
   first_entry o d true w = let h : true ≡ false = faultless t clean (record { want = Object o; value = d; repeated = true }) reason.Repeated w in h
   first_entry o d false w = refl
 
   equal_values : (d e : Data) → HasFittingNumbers d → HasFittingNumbers e → compact_cmp d e ≡ Equal → is_same_json e d ≡ true
-  equal_values d e h k same = let one : d ≡ e = compact_exact d e h k (exact_bytes (compact_text d) (compact_text e) same) in subst (λ x. is_same_json x d ≡ true) one (itself d (fitting_whole d h))
+  equal_values d e h k same = let one : d ≡ e = compact_exact d e h k (exact_bytes (compact_text d) (compact_text e) same) in
+      subst (λ x. is_same_json x d ≡ true) one (itself d (fitting_whole d h))
 
-  set_fit : (k : MemberKind) (r : Bool) (o : Role) (ds : Items) → entry_want_of_kind k ≡ Some (Object o) → is_compared_set (Member k r) ≡ true → Within t (asked (Member k r) (array ds)) → IsSet (list_of_items ds)
+  set_fit : (k : MemberKind) (r : Bool) (o : Role) (ds : Items) → entry_want_of_kind k ≡ Some (Object o) → is_compared_set (Member k r) ≡ true
+      → Within t (asked (Member k r) (array ds)) → IsSet (list_of_items ds)
   set_fit k r o ds want set w = record {
     trees = all_from_In IsWholeTree (list_of_items ds) (λ d i. let p = list_of_items-place ds d i in record {
       is_tree = within-tree t _ tree (set_entry k r o ds want set w p.0 d p.1);
@@ -98,10 +121,12 @@ module _ (π : Preference) (t : Data) (accepted : IsAccepted π t) (tree : IsTre
     distinct = unrepeated_by_cmp compact_cmp ds (λ i d e. first_entry o d (is_repeated ds i d) (set_entry k r o ds want set w i d e)) (λ d e i j same.
         let p = list_of_items-place ds d i in
         let q = list_of_items-place ds e j in
-        equal_values d e (within-fitting t _ fits (set_entry k r o ds want set w p.0 d p.1)) (within-fitting t _ fits (set_entry k r o ds want set w q.0 e q.1)) same);
+        equal_values d e (within-fitting t _ fits (set_entry k r o ds want set w p.0 d p.1))
+        (within-fitting t _ fits (set_entry k r o ds want set w q.0 e q.1)) same);
   }
 
-  array_fit : (k : MemberKind) (r : Bool) (o : Role) (d : Data) → entry_want_of_kind k ≡ Some (Object o) → is_compared_set (Member k r) ≡ true → ((e : Data) → has_wanted_kind (Member k r) e ≡ true → (ds : Items) × (e ≡ array ds))
+  array_fit : (k : MemberKind) (r : Bool) (o : Role) (d : Data) → entry_want_of_kind k ≡ Some (Object o) → is_compared_set (Member k r) ≡ true
+      → ((e : Data) → has_wanted_kind (Member k r) e ≡ true → (ds : Items) × (e ≡ array ds))
       → Within t (asked (Member k r) d) → IsSet (entries_of d)
   array_fit k r o d want set is_array w =
       let ds = is_array d (wanted_within t clean (asked (Member k r) d) w) in
@@ -113,11 +138,13 @@ module _ (π : Preference) (t : Data) (accepted : IsAccepted π t) (tree : IsTre
   label_class class.InternationalizedText e = refl
   label_class c e = cc
 
-  texts_fit : (b : Bool) (ms : Members) → class_of_object role.Label (object ms) ≡ Some class.InternationalizedText → Within t (asked (Member kind.Label b) (object ms))
+  texts_fit : (b : Bool) (ms : Members) → class_of_object role.Label (object ms) ≡ Some class.InternationalizedText
+      → Within t (asked (Member kind.Label b) (object ms))
       → (o : Option Data) → get_member (codes "Text") ms ≡ o → IsSet (option_map_or entries_of o [])
   texts_fit b ms among w None e = record { trees = tt; distinct = nothing_twice }
   texts_fit b ms among w (Some v) e =
-      array_fit kind.Languages true role.Language v refl refl array_from (member_within t clean (Member kind.Label b) role.Label ms class.InternationalizedText (codes "Text") v of_label among refl w e)
+      array_fit kind.Languages true role.Language v refl refl array_from
+      (member_within t clean (Member kind.Label b) role.Label ms class.InternationalizedText (codes "Text") v of_label among refl w e)
 
   label_fit : (b : Bool) (d : Data) → Within t (asked (Member kind.Label b) d) → IsLabel d
   label_fit b (string s) w = a_text s
@@ -140,17 +167,21 @@ module _ (π : Preference) (t : Data) (accepted : IsAccepted π t) (tree : IsTre
       let y = and_then-Some (key_of π) (owner t f s) k g in
       let o = owned_by t f r x.0 x.1 in
       let p = owned_by t f s y.0 y.1 in
-      let same : o.0.value ≡ p.0.value = ap (λ z. z.value) (one_keyed π t accepted f o.0 p.0 k keyed o.1 p.1 (ap (key_of π) o.2 ∙ x.2) (ap (key_of π) p.2 ∙ y.2)) in
+      let same : o.0.value ≡ p.0.value =
+      ap (λ z. z.value) (one_keyed π t accepted f o.0 p.0 k keyed o.1 p.1 (ap (key_of π) o.2 ∙ x.2) (ap (key_of π) p.2 ∙ y.2)) in
       let ids : Some r ≡ Some s = sym o.3 ∙ ap id_of (sym o.2 ∙ same ∙ p.2) ∙ p.3 in
       cc
 
   first_reference : (f : Family) (d : Data) (b : Bool) → Within t (record { want = Reference f; value = d; repeated = b }) → b ≡ false
-  first_reference f d true w = absurd (not_within t (record { want = Reference f; value = d; repeated = true }) (λ x. IsTrue (is_reference_fault t x reason.Repeated)) w (no_reference_fault π t accepted w.place reason.Repeated) refl)
+  first_reference f d true w =
+      absurd (not_within t (record { want = Reference f; value = d; repeated = true }) (λ x. IsTrue (is_reference_fault t x reason.Repeated)) w
+      (no_reference_fault π t accepted w.place reason.Repeated) refl)
   first_reference f d false w = refl
 
   module _ (f : Family) (keyed : has_keys f ≡ true) (r : Bool) (ds : Items) (w : Within t (asked (Member (kind.Many f) r) (array ds))) where
     reference_entry : (i : ℕ) (d : Data) → get_item i ds ≡ Some d → Within t (record { want = Reference f; value = d; repeated = is_repeated ds i d })
-    reference_entry i d e = Within-step t (asked (Member (kind.Many f) r) (array ds)) (record { want = Reference f; value = d; repeated = is_repeated ds i d }) (At i) w (rw e)
+    reference_entry i d e = Within-step t (asked (Member (kind.Many f) r) (array ds)) (record { want = Reference f; value = d; repeated = is_repeated ds i d })
+        (At i) w (rw e)
 
     first_of_references : (i : ℕ) (d : Data) → get_item i ds ≡ Some d → is_repeated ds i d ≡ false
     first_of_references i d e = first_reference f d (is_repeated ds i d) (reference_entry i d e)
@@ -159,14 +190,16 @@ module _ (π : Preference) (t : Data) (accepted : IsAccepted π t) (tree : IsTre
     reference_text : (d : Data) → In d (list_of_items ds) → (s : List ℕ) × (d ≡ string s) × Within t (asked (Reference f) (string s))
     reference_text d i =
         let p = list_of_items-place ds d i in
-        let w' : Within t (asked (Reference f) d) = subst (λ b. Within t (record { want = Reference f; value = d; repeated = b })) (first_of_references p.0 d p.1) (reference_entry p.0 d p.1) in
+        let w' : Within t (asked (Reference f) d) = subst (λ b. Within t (record { want = Reference f; value = d; repeated = b }))
+        (first_of_references p.0 d p.1) (reference_entry p.0 d p.1) in
         let s = string_from_text d (wanted_within t clean (asked (Reference f) d) w') in
         (s.0, s.1, subst (λ x. Within t (asked (Reference f) x)) s.1 w')
 
     abbrev key : Data → Option Key
     key d = option_and_then (key_named π t f) (as_str d)
 
-    texts_equal : (a b : List ℕ) → Within t (asked (Reference f) (string a)) → Within t (asked (Reference f) (string b)) → option_cmp key_cmp (key_named π t f a) (key_named π t f b) ≡ Equal → b ≡ a
+    texts_equal : (a b : List ℕ) → Within t (asked (Reference f) (string a)) → Within t (asked (Reference f) (string b))
+        → option_cmp key_cmp (key_named π t f a) (key_named π t f b) ≡ Equal → b ≡ a
     texts_equal a b x y e =
         let k = resolves π t accepted f a keyed x in
         let l = resolves π t accepted f b keyed y in
@@ -181,12 +214,15 @@ module _ (π : Preference) (t : Data) (accepted : IsAccepted π t) (tree : IsTre
         ap₂ is_same_json (b.1 ∙ ap string same) a.1 ∙ text_itself a.0
 
     references_fit : AreDistinctKeys (keys_named π t f (list_of_items ds))
-    references_fit = distinct_keys key (list_of_items ds) (unrepeated_by_cmp (λ d e. option_cmp key_cmp (key d) (key e)) ds first_of_references equal_references)
+    references_fit =
+        distinct_keys key (list_of_items ds) (unrepeated_by_cmp (λ d e. option_cmp key_cmp (key d) (key e)) ds first_of_references equal_references)
 
-  many_fit : (f : Family) → has_keys f ≡ true → (r : Bool) (d : Data) → Within t (asked (Member (kind.Many f) r) d) → AreDistinctKeys (keys_named π t f (entries_of d))
+  many_fit : (f : Family) → has_keys f ≡ true → (r : Bool) (d : Data) → Within t (asked (Member (kind.Many f) r) d)
+      → AreDistinctKeys (keys_named π t f (entries_of d))
   many_fit f keyed r d w =
       let ds = array_from d (wanted_within t clean (asked (Member (kind.Many f) r) d) w) in
-      subst (λ x. AreDistinctKeys (keys_named π t f (entries_of x))) (sym ds.1) (references_fit f keyed r ds.0 (subst (λ x. Within t (asked (Member (kind.Many f) r) x)) ds.1 w))
+      subst (λ x. AreDistinctKeys (keys_named π t f (entries_of x))) (sym ds.1)
+      (references_fit f keyed r ds.0 (subst (λ x. Within t (asked (Member (kind.Many f) r) x)) ds.1 w))
 
   -- ---- names
 
@@ -194,7 +230,8 @@ module _ (π : Preference) (t : Data) (accepted : IsAccepted π t) (tree : IsTre
   fitting_names id n e =
       let x = and_then-Some (name_of π t) (owner t family.Selection id) n e in
       let o = owned_by t family.Selection id x.0 x.1 in
-      let w : Within t (asked (Object (role.OfFamily family.Selection)) o.0.value) = record { place = o.0.place; is = stands π t accepted family.Selection o.0 o.1 } in
+      let w : Within t (asked (Object (role.OfFamily family.Selection)) o.0.value) =
+      record { place = o.0.place; is = stands π t accepted family.Selection o.0 o.1 } in
       name_fits x.0 n (subst HasFittingNumbers o.2 (within-fitting t _ fits w)) x.2
     where
       name_fits : (d : Data) (n : NameParts) → HasFittingNumbers d → name_of π t d ≡ Some n → HasFittingOrder n.order
@@ -202,7 +239,8 @@ module _ (π : Preference) (t : Data) (accepted : IsAccepted π t) (tree : IsTre
         where
           at : (o : Option Class) → class_of_object (role.OfFamily family.Selection) d ≡ o → HasFittingOrder n.order
           at None is = let f : None ≡ Some n = rw is at e in cc
-          at (Some c) is = let f = rw is at e in let order : order_of_selection d ≡ n.order = ap (λ o. option_map_or (λ (m : NameParts). m.order) o None) f in subst HasFittingOrder order (order_fits d h)
+          at (Some c) is = let f = rw is at e in let order : order_of_selection d ≡ n.order = ap (λ o. option_map_or (λ (m : NameParts). m.order) o None) f in
+              subst HasFittingOrder order (order_fits d h)
 
   -- ---- members
 
@@ -222,7 +260,8 @@ module _ (π : Preference) (t : Data) (accepted : IsAccepted π t) (tree : IsTre
       identity class.ElectionReport = refl
       identity c = refl
 
-  kind_fit : (c : Class) (name : List ℕ) (d : Data) → bytes_eq name (codes "@type") ≡ false → Within t (asked (member_want c name) d) → IsFit π t (kind_of_member c name) d
+  kind_fit : (c : Class) (name : List ℕ) (d : Data) → bytes_eq name (codes "@type") ≡ false → Within t (asked (member_want c name) d)
+      → IsFit π t (kind_of_member c name) d
   kind_fit c name d other w = at (kind_of_member c name) refl (kind_keyed c name other)
     where
       by : (k : MemberKind) → kind_of_member c name ≡ k → is_word k ≡ false → Within t (asked (want_of_kind k (is_required c name)) d)
@@ -259,7 +298,8 @@ one_index : (p : List Step) (m n : ℕ) → p ++ At m ∷ [] ≡ p ++ At n ∷ [
 one_index [] m n e = cc
 one_index (s ∷ p) m n e = let h : p ++ At m ∷ [] ≡ p ++ At n ∷ [] = cc in one_index p m n h
 
-one_place : (p : List Step) (ds : List Data) (i j : ℕ) (o q : Placed) → slice_get (placed_from p 0 ds) i ≡ Some o → slice_get (placed_from p 0 ds) j ≡ Some q → o ≡ q → i ≡ j
+one_place : (p : List Step) (ds : List Data) (i j : ℕ) (o q : Placed) → slice_get (placed_from p 0 ds) i ≡ Some o → slice_get (placed_from p 0 ds) j
+    ≡ Some q → o ≡ q → i ≡ j
 one_place p ds i j o q a b e =
     let h : 0 + i ≡ 0 + j = one_index p (0 + i) (0 + j) (sym (placed_at p 0 ds i o a) ∙ ap (λ x. x.place) e ∙ placed_at p 0 ds j q b) in
     omega arith
@@ -270,7 +310,8 @@ module _ (π : Preference) (t : Data) (accepted : IsAccepted π t) (tree : IsTre
 
   module _ (contest : Placed) (stands_there : In contest (objects family.Contest t)) where
     selection_within : (o : Placed) → In o (selections_of_contest contest) → Within t (asked (Object selection_role) o.value)
-    selection_within o i = record { place = o.place; is = stands π t accepted family.Selection o (In-flat_map selections_of_contest o contest (contests t) stands_there i) }
+    selection_within o i =
+        record { place = o.place; is = stands π t accepted family.Selection o (In-flat_map selections_of_contest o contest (contests t) stands_there i) }
 
     selection_fit : (o : Placed) → In o (selections_of_contest contest) → IsSelection π t o.value
     selection_fit o i =
@@ -286,7 +327,8 @@ module _ (π : Preference) (t : Data) (accepted : IsAccepted π t) (tree : IsTre
           fit = λ c is.
               let classes : Some a.class ≡ Some c = sym a.at.among ∙ is in
               let same : a.class ≡ c = cc in
-              members_fit π t accepted tree fits (Object selection_role) selection_role c a.ms (subst (λ x. ObjectAt t (Object selection_role) selection_role x a.ms) same a.at);
+              members_fit π t accepted tree fits (Object selection_role) selection_role c a.ms
+              (subst (λ x. ObjectAt t (Object selection_role) selection_role x a.ms) same a.at);
         }
 
     name_at : (o : Placed) → In o (selections_of_contest contest) → (n : NameParts) × (name_of π t o.value ≡ Some n)
@@ -299,7 +341,8 @@ module _ (π : Preference) (t : Data) (accepted : IsAccepted π t) (tree : IsTre
         let m = name_at o h in
         let n = name_at p k in
         let same : m.0 ≡ n.0 = name_cmp_exact m.0 n.0 ((Equal-is (name_cmp m.0 n.0)).0 (sym (ap₂ (λ x y. is_eq (option_cmp name_cmp x y)) m.1 n.1) ∙ e)) in
-        one_place _ (entries_at (codes "ContestSelection") contest.value) i j o p a b (one_named π t accepted contest o p m.0 stands_there h k m.1 (n.1 ∙ ap Some (sym same))))
+        one_place _ (entries_at (codes "ContestSelection") contest.value) i j o p a b
+        (one_named π t accepted contest o p m.0 stands_there h k m.1 (n.1 ∙ ap Some (sym same))))
 
     values_of_selections : map (λ (o : Placed). o.value) (selections_of_contest contest) ≡ entries_at (codes "ContestSelection") contest.value
     values_of_selections = values-placed_entries (codes "ContestSelection") contest
@@ -309,7 +352,8 @@ module _ (π : Preference) (t : Data) (accepted : IsAccepted π t) (tree : IsTre
       all_from_In (IsSelection π t) (entries_at (codes "ContestSelection") contest.value) (λ d i.
           let r = In-map_from (λ (o : Placed). o.value) (selections_of_contest contest) d (subst (In d) (sym values_of_selections) i) in
           subst (IsSelection π t) r.2 (selection_fit r.0 r.1)),
-      subst (IsDistinct (eq_by_cmp by_name)) values_of_selections (distinct_map (λ (o : Placed). o.value) (eq_by_cmp by_name) (selections_of_contest contest) placed_names_distinct),
+      subst (IsDistinct (eq_by_cmp by_name)) values_of_selections
+          (distinct_map (λ (o : Placed). o.value) (eq_by_cmp by_name) (selections_of_contest contest) placed_names_distinct),
     )
 
   -- ---- all members of an object
@@ -328,7 +372,8 @@ module _ (π : Preference) (t : Data) (accepted : IsAccepted π t) (tree : IsTre
 
   -- where the selections are as they must be, if its class has any
   all_fit : (w : Want) (q : Role) (c : Class) (ms : Members) → ObjectAt t w q c ms
-      → (is_selections (kind_of_member c (codes "ContestSelection")) ≡ true → AreSelections π t (entries_at (codes "ContestSelection") (object ms))) → AreFitMembers π t c ms
+      → (is_selections (kind_of_member c (codes "ContestSelection")) ≡ true → AreSelections π t (entries_at (codes "ContestSelection") (object ms)))
+      → AreFitMembers π t c ms
   all_fit w q c ms a selections name d found = at (is_selections (kind_of_member c name)) refl
     where
       at : (b : Bool) → is_selections (kind_of_member c name) ≡ b → IsFitMember π t (kind_of_member c name) d
@@ -336,7 +381,8 @@ module _ (π : Preference) (t : Data) (accepted : IsAccepted π t) (tree : IsTre
       at true is =
           let named : name ≡ codes "ContestSelection" = selections_name c name is in
           let here : is_selections (kind_of_member c (codes "ContestSelection")) ≡ true = subst (λ n. is_selections (kind_of_member c n) ≡ true) named is in
-          let entries : entries_at (codes "ContestSelection") (object ms) ≡ entries_of d = ap (λ n. option_map_or entries_of (get_member n ms) []) (sym named) ∙ ap (λ o. option_map_or entries_of o []) found in
+          let entries : entries_at (codes "ContestSelection") (object ms) ≡ entries_of d = ap (λ n. option_map_or entries_of (get_member n ms) []) (sym named)
+          ∙ ap (λ o. option_map_or entries_of o []) found in
           subst (λ k. IsFitMember π t k d) (sym (selections_kind (kind_of_member c name) is)) (subst (AreSelections π t) entries (selections here))
 
   pub object_fit : (f : Family) (o : Placed) (a : ObjectIn t (role.OfFamily f) o.value) → In o (objects f t) → AreFitMembers π t a.class a.ms
@@ -345,7 +391,8 @@ module _ (π : Preference) (t : Data) (accepted : IsAccepted π t) (tree : IsTre
       subst (λ x. AreSelections π t (entries_at (codes "ContestSelection") x)) a.is_object (selections_fit o (subst (λ g. In o (objects g t)) contest i)))
 
   -- the report, and its elections
-  pub no_selections : (q : Role) (c : Class) → role_of_class c ≡ q → is_family_role q ≡ false → is_selections (kind_of_member c (codes "ContestSelection")) ≡ false
+  pub no_selections : (q : Role) (c : Class) → role_of_class c ≡ q → is_family_role q ≡ false
+      → is_selections (kind_of_member c (codes "ContestSelection")) ≡ false
   no_selections q c e h = at c (ap is_family_role e ∙ h)
     where
       at : (c : Class) → is_family_role (role_of_class c) ≡ false → is_selections (kind_of_member c (codes "ContestSelection")) ≡ false

@@ -1,6 +1,9 @@
 -- The orders of two ballots are written alike if and only if they mean the same. Between what is meant and what is written stands
 -- a third form, in which the carried members are a list.
-use Rattle.erd_text.proofs.Common.{⊤, ◌≡◌, ℕ, Bool, true, false, cond, List, [], ◌∷◌, map, Some, None, Option, codes, option_and_then, bytes_eq, sym, refl, ap, ap₂, ◌∙◌, fun_ext, Ordering, Equal, exact_bytes, nat_list_cmp_total, Data, null, boolean, string, array, object, Items, no_items, item, Members, no_members, member, get_member, get, as_str, entries_at, text_at, family, Class, kind, MemberKind, AllByRecursion}
+use Rattle.erd_text.proofs.Common.{⊤, ◌≡◌, ℕ, Bool, true, false, cond, List, [], ◌∷◌, map, Some, None, Option, codes, option_and_then, bytes_eq, sym, refl, ap}
+use Rattle.erd_text.proofs.Common.{ap₂, ◌∙◌, fun_ext, Ordering, Equal, exact_bytes, nat_list_cmp_total, Data, null, boolean, string, array, object, Items}
+use Rattle.erd_text.proofs.Common.{no_items, item, Members, no_members, member, get_member, get, as_str, entries_at, text_at, family, Class, kind, MemberKind}
+use Rattle.erd_text.proofs.Common.{AllByRecursion}
 use Rattle.std.specs.Ordering.{match_ordering}
 use Rattle.serde_json.specs.Data.{number}
 use Rattle.erd_tables.specs.Table.{kind_of_member}
@@ -10,13 +13,15 @@ use Rattle.erd_check.proofs.Shapes.{members_unique}
 use Rattle.erd_meaning.specs.Keys.{Preference}
 use Rattle.erd_meaning.specs.NameParts.{NameParts}
 use Rattle.erd_meaning.specs.Meaning.{JsonMap, Content, no_content, first_node, Node, a_contest, a_header}
-use Rattle.erd_meaning.specs.Records.{carried_members, class_of_node, content_of, content_inside, contest_node, header_node, if_carried, is_header_class, node_of, nodes_of}
+use Rattle.erd_meaning.specs.Records.{carried_members, class_of_node, content_of, content_inside, contest_node, header_node, if_carried, is_header_class}
+use Rattle.erd_meaning.specs.Records.{node_of, nodes_of}
 use Rattle.erd_meaning.specs.SelectionNames.{key_named, name_named}
 use Rattle.erd_meaning.specs.declared.keys.key.Key.{Key}
 use Rattle.erd_shown.proofs.told.Sets.{array_exact}
 use Rattle.erd_shown.proofs.told.Names.{Fits, keys_exact, names_exact}
 use Rattle.erd_shown.specs.KeyData.{array_of, shown_key_or_null, shown_name}
-use Rattle.erd_shown.specs.ContentData.{carried_data, carried_in, content_data, contest_data, header_data, inside_data, is_carried, is_carried_kind, members_in, node_data, nodes_data, shown_name_named}
+use Rattle.erd_shown.specs.ContentData.{carried_data, carried_in, content_data, contest_data, header_data, inside_data, is_carried, is_carried_kind, members_in}
+use Rattle.erd_shown.specs.ContentData.{node_data, nodes_data, shown_name_named}
 use Rattle.erd_shown.specs.code.Fitting.{ContentsTell, HasFittingNames}
 
 -- ---- carried members
@@ -119,7 +124,8 @@ abbrev mutual
 
   pub written_part : Part → Data
   written_part (contest_part k names ms) =
-      object (member (codes "carried") (object ms) (member (codes "contest") (shown_key_or_null k) (member (codes "selections") (array_of (map shown_name names)) no_members)))
+      object (member (codes "carried") (object ms)
+      (member (codes "contest") (shown_key_or_null k) (member (codes "selections") (array_of (map shown_name names)) no_members)))
   written_part (header_part k ps ms) =
       object (member (codes "carried") (object ms) (member (codes "content") (array (written ps)) (member (codes "header") (shown_key_or_null k) no_members)))
 
@@ -215,7 +221,8 @@ name_in π t r = option_and_then (name_named π t) (as_str r)
 
 abbrev contest_of : Preference → Data → Data → Part
 contest_of π t d =
-    contest_part (key_named π t family.Contest (text_at (codes "ContestId") d)) (map (λ r. option_and_then (name_named π t) (as_str r)) (entries_at (codes "OrderedContestSelectionIds") d))
+    contest_part (key_named π t family.Contest (text_at (codes "ContestId") d))
+    (map (λ r. option_and_then (name_named π t) (as_str r)) (entries_at (codes "OrderedContestSelectionIds") d))
     (carried_in (class_of_node d) (members_in d))
 
 abbrev mutual
@@ -240,11 +247,14 @@ abbrev mutual
 
 module _ (π : Preference) (t : Data) where
   contest_means : (d : Data) → contest_node π t d ≡ meant_part (contest_of π t d)
-  contest_means d = ap (a_contest (key_named π t family.Contest (text_at (codes "ContestId") d)) (map (λ r. option_and_then (name_named π t) (as_str r)) (entries_at (codes "OrderedContestSelectionIds") d))) (carried-by_name (class_of_node d) d)
+  contest_means d =
+      ap (a_contest (key_named π t family.Contest (text_at (codes "ContestId") d))
+      (map (λ r. option_and_then (name_named π t) (as_str r)) (entries_at (codes "OrderedContestSelectionIds") d))) (carried-by_name (class_of_node d) d)
 
   header_means : (ms : Members) (c : Content) (ps : Parts) → c ≡ meant ps → header_node π t (object ms) c
       ≡ meant_part (header_part (key_named π t family.Header (text_at (codes "HeaderId") (object ms))) ps (carried_in (class_of_node (object ms)) ms))
-  header_means ms c ps e = ap₂ (a_header (key_named π t family.Header (text_at (codes "HeaderId") (object ms)))) e (carried-by_name (class_of_node (object ms)) (object ms))
+  header_means ms c ps e = ap₂ (a_header (key_named π t family.Header (text_at (codes "HeaderId") (object ms)))) e
+      (carried-by_name (class_of_node (object ms)) (object ms))
 
   either : {A B : Type 0} (f : A → B) (b : Bool) {x y : B} {v w : A} → x ≡ f v → y ≡ f w → cond b x y ≡ f (cond b v w)
   either f true e g = e
@@ -264,7 +274,8 @@ module _ (π : Preference) (t : Data) where
     nodes_mean (item d ds) = ap₂ first_node (node_means d) (nodes_mean ds)
 
     node_means : (d : Data) → node_of π t d ≡ meant_part (part_of π t d)
-    node_means (object ms) = either meant_part (is_header_class (class_of_node (object ms))) (header_means ms (content_inside π t ms) (parts_inside π t ms) (inside_means ms)) (contest_means (object ms))
+    node_means (object ms) = either meant_part (is_header_class (class_of_node (object ms)))
+        (header_means ms (content_inside π t ms) (parts_inside π t ms) (inside_means ms)) (contest_means (object ms))
     node_means null = contest_means null
     node_means (boolean b) = contest_means (boolean b)
     node_means (number n) = contest_means (number n)
@@ -281,7 +292,10 @@ module _ (π : Preference) (t : Data) where
 
   contest_written : (d : Data) → contest_data π t d ≡ written_part (contest_of π t d)
   contest_written d =
-      ap (λ ds. object (member (codes "carried") (carried_data d) (member (codes "contest") (shown_key_or_null (key_named π t family.Contest (text_at (codes "ContestId") d))) (member (codes "selections") (array_of ds) no_members))))
+      ap (λ ds. object
+      (member (codes "carried") (carried_data d)
+      (member (codes "contest") (shown_key_or_null (key_named π t family.Contest (text_at (codes "ContestId") d)))
+      (member (codes "selections") (array_of ds) no_members))))
       (names_written (entries_at (codes "OrderedContestSelectionIds") d))
 
   header_written : (ms : Members) (x : Data) (ps : Parts) → x ≡ array (written ps) → header_data π t (object ms) x
@@ -302,7 +316,8 @@ module _ (π : Preference) (t : Data) where
     nodes_written (item d ds) = ap₂ item (node_written d) (nodes_written ds)
 
     node_written : (d : Data) → node_data π t d ≡ written_part (part_of π t d)
-    node_written (object ms) = either written_part (is_header_class (class_of_node (object ms))) (header_written ms (inside_data π t ms) (parts_inside π t ms) (inside_written ms)) (contest_written (object ms))
+    node_written (object ms) = either written_part (is_header_class (class_of_node (object ms)))
+        (header_written ms (inside_data π t ms) (parts_inside π t ms) (inside_written ms)) (contest_written (object ms))
     node_written null = contest_written null
     node_written (boolean b) = contest_written (boolean b)
     node_written (number n) = contest_written (number n)
@@ -354,7 +369,10 @@ module _ (π : Preference) (t : Data) where
 
       node_good : (d : Data) → IsTree d → GoodPart (part_of π t d)
       node_good (object ms) tree =
-          which (is_header_class (class_of_node (object ms))) (header_part (key_named π t family.Header (text_at (codes "HeaderId") (object ms))) (parts_inside π t ms) (carried_in (class_of_node (object ms)) ms)) (contest_of π t (object ms)) (inside_good ms tree, carried-rise (class_of_node (object ms)) ms tree) (contest_good (object ms) tree)
+          which (is_header_class (class_of_node (object ms)))
+          (header_part (key_named π t family.Header (text_at (codes "HeaderId") (object ms))) (parts_inside π t ms)
+          (carried_in (class_of_node (object ms)) ms)) (contest_of π t (object ms)) (inside_good ms tree, carried-rise (class_of_node (object ms)) ms tree)
+          (contest_good (object ms) tree)
       node_good null tree = contest_good null tree
       node_good (boolean b) tree = contest_good (boolean b) tree
       node_good (number n) tree = contest_good (number n) tree
@@ -363,7 +381,8 @@ module _ (π : Preference) (t : Data) where
 
       inside_good : (ms : Members) → AreMembers ms → Good (parts_inside π t ms)
       inside_good no_members rise = tt
-      inside_good (member k d ms) rise = which_parts (bytes_eq (codes "OrderedContent") k) (parts_of π t d) (parts_inside π t ms) (content_good d rise.1) (inside_good ms rise.2)
+      inside_good (member k d ms) rise = which_parts (bytes_eq (codes "OrderedContent") k) (parts_of π t d) (parts_inside π t ms) (content_good d rise.1)
+          (inside_good ms rise.2)
 
 -- ---- the law
 
@@ -378,5 +397,6 @@ contents_tell π ρ t u d e fit fit' tree tree' =
           let items : written p ≡ written q = cc in
           content_means π t d ∙ ap meant (written_exact p q good good' items) ∙ sym (content_means ρ u e),
       λ same.
-          content_written π t d ∙ ap (λ ps. array (written ps)) (meant_exact p q good good' (sym (content_means π t d) ∙ same ∙ content_means ρ u e)) ∙ sym (content_written ρ u e),
+          content_written π t d ∙ ap (λ ps. array (written ps)) (meant_exact p q good good' (sym (content_means π t d) ∙ same ∙ content_means ρ u e))
+          ∙ sym (content_written ρ u e),
     )

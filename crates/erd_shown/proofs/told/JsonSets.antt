@@ -1,6 +1,8 @@
 -- Whole trees are equal to themselves as JSON, and sets of JSON values are written alike if and only if they are the same. (the
 -- first part is erd_compare's `WholeTrees`)
-use Rattle.erd_text.proofs.Common.{◌≡◌, true, false, List, sym, refl, ap, ◌∙◌, subst, fun_ext, both_ways, or_parts, pos, Data, null, boolean, string, array, object, Items, no_items, item, Members, no_members, member, is_same_json, In, In-any, In-all, any_at, rising_list, compact_cmp, has_float, items_have_float, members_have_float}
+use Rattle.erd_text.proofs.Common.{◌≡◌, true, false, List, sym, refl, ap, ◌∙◌, subst, fun_ext, both_ways, or_parts, pos, Data, null, boolean, string, array}
+use Rattle.erd_text.proofs.Common.{object, Items, no_items, item, Members, no_members, member, is_same_json, In, In-any, In-all, any_at, rising_list}
+use Rattle.erd_text.proofs.Common.{compact_cmp, has_float, items_have_float, members_have_float}
 use Rattle.std.specs.Prelude.{◌&&◌}
 use Rattle.std.proofs.lemmas.Bool.{and_from}
 use Rattle.std.proofs.lemmas.Bool.Decides.{Decides-int_eq}
@@ -37,7 +39,8 @@ mutual
   members_themselves no_members h = refl
   members_themselves (member k d ms) h =
       let parts = or_parts (has_float d) (members_have_float ms) h in
-      and_from _ (is_same_json d d && are_same_members ms ms) (text_itself k) (and_from (is_same_json d d) (are_same_members ms ms) (itself d parts.0) (members_themselves ms parts.1))
+      and_from _ (is_same_json d d && are_same_members ms ms) (text_itself k)
+      (and_from (is_same_json d d) (are_same_members ms ms) (itself d parts.0) (members_themselves ms parts.1))
 
 -- ---- sets
 
@@ -57,7 +60,8 @@ within ds es to d h = let r = In-any (is_same_json d) ds h in any_at (is_same_js
 
 pub to_set : (ds es : List Data) → rising_list compact_cmp ds ≡ rising_list compact_cmp es → json_set ds ≡ json_set es
 to_set ds es e =
-    fun_ext (λ d. both_ways (json_set ds d) (json_set es d) (within ds es (same_entries compact_cmp ds es e) d) (within es ds (same_entries compact_cmp es ds (sym e)) d))
+    fun_ext (λ d. both_ways (json_set ds d) (json_set es d) (within ds es (same_entries compact_cmp ds es e) d)
+    (within es ds (same_entries compact_cmp es ds (sym e)) d))
 
 pub sets_tell : SetsTell
 sets_tell ds es left right = (λ e. to_set ds es (array_exact _ _ e), λ e. ap array_of (set_from ds es left right e))

@@ -1,5 +1,6 @@
 -- Labels are written alike if and only if they mean the same.
-use Rattle.erd_text.proofs.Common.{◌≡◌, ℕ, Bool, true, false, cond, List, [], ◌∷◌, items_of, AllByRecursion, Some, None, Option, codes, bytes_eq, sym, refl, ap, ap₂, ◌∙◌, subst, fun_ext, Data, string, object, Members, get_member, entries_at, rising_list, compact_cmp, true≢false}
+use Rattle.erd_text.proofs.Common.{◌≡◌, ℕ, Bool, true, false, cond, List, [], ◌∷◌, items_of, AllByRecursion, Some, None, Option, codes, bytes_eq, sym, refl, ap}
+use Rattle.erd_text.proofs.Common.{ap₂, ◌∙◌, subst, fun_ext, Data, string, object, Members, get_member, entries_at, rising_list, compact_cmp, true≢false}
 use Rattle.std.specs.Prelude.{◌||◌}
 use Rattle.serde_json.specs.Data.{put}
 use Rattle.serde_json.proofs.Views.{get_member-put, get_member-put_other}
@@ -26,7 +27,8 @@ elsewhere k l v ms e = get_member-put_other k l v ms (other_name k l e)
 abbrev written : Members → Members
 written ms = put (codes "Text") (set_data (entries_at (codes "Text") (object ms))) ms
 
-one_set : (ms ns : Members) → written ms ≡ written ns → rising_list compact_cmp (entries_at (codes "Text") (object ms)) ≡ rising_list compact_cmp (entries_at (codes "Text") (object ns))
+one_set : (ms ns : Members) → written ms ≡ written ns → rising_list compact_cmp (entries_at (codes "Text") (object ms)) ≡ rising_list compact_cmp
+    (entries_at (codes "Text") (object ns))
 one_set ms ns e =
     let found : Some (set_data (entries_at (codes "Text") (object ms))) ≡ Some (set_data (entries_at (codes "Text") (object ns))) =
     sym (get_member-put (codes "Text") _ ms) ∙ ap (get_member (codes "Text")) e ∙ get_member-put (codes "Text") _ ns in
@@ -57,20 +59,26 @@ trees_of (d ∷ ds) h = (h.0.is_tree, trees_of ds h.1)
 pub set_trees : (ds : List Data) → IsSet ds → IsTree (set_data ds)
 set_trees ds h = trees_of (rising_list compact_cmp ds) (all_rising IsWholeTree compact_cmp ds h.trees)
 
-one_label : (ms ns : Members) → IsTree (object ms) → IsTree (object ns) → IsSet (entries_at (codes "Text") (object ms)) → IsSet (entries_at (codes "Text") (object ns)) → get_member (codes "@type") ms ≡ get_member (codes "@type") ns
+one_label : (ms ns : Members) → IsTree (object ms) → IsTree (object ns) → IsSet (entries_at (codes "Text") (object ms))
+    → IsSet (entries_at (codes "Text") (object ns)) → get_member (codes "@type") ms ≡ get_member (codes "@type") ns
     → label_beside_text (object ms) ≡ label_beside_text (object ns)
-    → rising_list compact_cmp (entries_at (codes "Text") (object ms)) ≡ rising_list compact_cmp (entries_at (codes "Text") (object ns)) → written ms ≡ written ns
+    → rising_list compact_cmp (entries_at (codes "Text") (object ms)) ≡ rising_list compact_cmp (entries_at (codes "Text") (object ns))
+    → written ms ≡ written ns
 one_label ms ns left right set set' type others lists =
-    members_unique (written ms) (written ns) (put-trees (codes "Text") _ ms left (set_trees _ set)) (put-trees (codes "Text") _ ns right (set_trees _ set')) (λ k. at k (bytes_eq k (codes "Text")) refl (bytes_eq k (codes "@type")) refl)
+    members_unique (written ms) (written ns) (put-trees (codes "Text") _ ms left (set_trees _ set)) (put-trees (codes "Text") _ ns right (set_trees _ set'))
+    (λ k. at k (bytes_eq k (codes "Text")) refl (bytes_eq k (codes "@type")) refl)
   where
-    at : (k : List ℕ) (b : Bool) → bytes_eq k (codes "Text") ≡ b → (a : Bool) → bytes_eq k (codes "@type") ≡ a → get_member k (written ms) ≡ get_member k (written ns)
+    at : (k : List ℕ) (b : Bool) → bytes_eq k (codes "Text") ≡ b → (a : Bool) → bytes_eq k (codes "@type") ≡ a → get_member k (written ms)
+        ≡ get_member k (written ns)
     at k true is a e =
         subst (λ n. get_member n (written ms) ≡ get_member n (written ns)) (sym (text_exact k (codes "Text") is))
         (get_member-put (codes "Text") _ ms ∙ ap (λ ds. Some (array_of ds)) lists ∙ sym (get_member-put (codes "Text") _ ns))
     at k false is true e =
-        elsewhere k (codes "Text") _ ms is ∙ subst (λ n. get_member n ms ≡ get_member n ns) (sym (text_exact k (codes "@type") e)) type ∙ sym (elsewhere k (codes "Text") _ ns is)
+        elsewhere k (codes "Text") _ ms is ∙ subst (λ n. get_member n ms ≡ get_member n ns) (sym (text_exact k (codes "@type") e)) type
+        ∙ sym (elsewhere k (codes "Text") _ ns is)
     at k false is false e =
-        elsewhere k (codes "Text") _ ms is ∙ there (bytes_eq k (codes "@type")) (bytes_eq k (codes "Text")) (get_member k ms) (get_member k ns) e is (ap (λ f. f k) others) ∙ sym (elsewhere k (codes "Text") _ ns is)
+        elsewhere k (codes "Text") _ ms is ∙ there (bytes_eq k (codes "@type")) (bytes_eq k (codes "Text")) (get_member k ms) (get_member k ns) e is
+        (ap (λ f. f k) others) ∙ sym (elsewhere k (codes "Text") _ ns is)
 
 pub labels_tell : LabelsTell
 labels_tell d e (a_text s) (a_text s') = (λ h. let same : s ≡ s' = cc in ap (λ x. label_of (string x)) same, λ h. let same : s ≡ s' = cc in ap string same)

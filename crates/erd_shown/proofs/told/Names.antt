@@ -74,4 +74,5 @@ names_exact (Some m) (Some n) g h e =
     let order_same = orders_exact m.order n.order g h orders in
     let label_same = texts_exact m.label n.label labels in
     let identifier_same = keys_exact m.identifier n.identifier identifiers in
-    λ i. Some (record { class = class_same i; keys = keys_same i; write_in = flags i; order = order_same i; label = label_same i; identifier = identifier_same i })
+    λ i. Some
+    (record { class = class_same i; keys = keys_same i; write_in = flags i; order = order_same i; label = label_same i; identifier = identifier_same i })

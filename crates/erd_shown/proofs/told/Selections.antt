@@ -1,5 +1,8 @@
 -- The selections of two contests are written alike if and only if they mean the same.
-use Rattle.erd_text.proofs.Common.{⊤, ◌≡◌, inl, inr, Bool, true, false, cond, List, [], ◌∷◌, map, Some, None, Option, option_and_then, option_map, find, is_eq, is_lt, sym, refl, ap, ap₂, ◌∙◌, subst, fun_ext, Ordering, Less, Equal, Greater, Data, null, object, string, Members, no_members, member, codes, Class, In, In-map, In-map_from, AllByRecursion, IsTotalOrder, CmpEqualImpliesEq, rising_list, with_inserted, eq_by_cmp, tied_itself, class_of_object, In-all}
+use Rattle.erd_text.proofs.Common.{⊤, ◌≡◌, inl, inr, Bool, true, false, cond, List, [], ◌∷◌, map, Some, None, Option, option_and_then, option_map, find, is_eq}
+use Rattle.erd_text.proofs.Common.{is_lt, sym, refl, ap, ap₂, ◌∙◌, subst, fun_ext, Ordering, Less, Equal, Greater, Data, null, object, string, Members}
+use Rattle.erd_text.proofs.Common.{no_members, member, codes, Class, In, In-map, In-map_from, AllByRecursion, IsTotalOrder, CmpEqualImpliesEq, rising_list}
+use Rattle.erd_text.proofs.Common.{with_inserted, eq_by_cmp, tied_itself, class_of_object, In-all}
 unfoldable use Rattle.erd_text.proofs.Common.{IsDistinct}
 use Rattle.std.specs.Prelude.{◌↔◌}
 use Rattle.std.specs.Option.{option_cmp, option_map_or}
@@ -94,16 +97,19 @@ module _ {A : Type 0} (p : A → Bool) where
 
 -- ---- records of selections
 
-module _ (π ρ : Preference) (t u : Data) (ms ns : Members) (rise : AreMembers ms) (rise' : AreMembers ns) (fit : (c : Class) → class_of_object selection_role (object ms) ≡ Some c → AreFit π t c ms)
+module _ (π ρ : Preference) (t u : Data) (ms ns : Members) (rise : AreMembers ms) (rise' : AreMembers ns)
+    (fit : (c : Class) → class_of_object selection_role (object ms) ≡ Some c → AreFit π t c ms)
     (fit' : (c : Class) → class_of_object selection_role (object ns) ≡ Some c → AreFit ρ u c ns) where
   members_at : (c d : Class) → class_of_object selection_role (object ms) ≡ Some c → class_of_object selection_role (object ns) ≡ Some d → c ≡ d
       → (shown_members (shown_plain π t c) ms ≡ shown_members (shown_plain ρ u d) ns) ↔ (plain_member π t (object ms) c ≡ plain_member ρ u (object ns) d)
   members_at c d is is' same =
-      subst (λ x. (shown_members (shown_plain π t c) ms ≡ shown_members (shown_plain ρ u x) ns) ↔ (plain_member π t (object ms) c ≡ plain_member ρ u (object ns) x)) same
+      subst (λ x. (shown_members (shown_plain π t c) ms ≡ shown_members (shown_plain ρ u x) ns)
+      ↔ (plain_member π t (object ms) c ≡ plain_member ρ u (object ns) x)) same
       (records_tell π ρ t u c ms ns rise rise' (fit c is) (fit' c (is' ∙ ap Some (sym same))))
 
   abbrev written : Preference → Data → Members → Class → Data
-  written π t ms c = object (member (codes "class") (string (text_of_class c)) (member (codes "members") (object (shown_members (shown_plain π t c) ms)) no_members))
+  written π t ms c =
+      object (member (codes "class") (string (text_of_class c)) (member (codes "members") (object (shown_members (shown_plain π t c) ms)) no_members))
 
   abbrev meant : Preference → Data → Members → Class → SelectionRecord
   meant π t ms c = record { class = c; members = plain_member π t (object ms) c }
@@ -127,7 +133,8 @@ module _ (π ρ : Preference) (t u : Data) (ms ns : Members) (rise : AreMembers 
         ap₂ (λ s x. object (member (codes "class") (string s) (member (codes "members") (object x) no_members))) (ap text_of_class same) all,
   )
 
-  pub record_told : (record_data (shown_plain π t) selection_role (object ms) ≡ record_data (shown_plain ρ u) selection_role (object ns)) ↔ (selection_record π t (object ms) ≡ selection_record ρ u (object ns))
+  pub record_told : (record_data (shown_plain π t) selection_role (object ms) ≡ record_data (shown_plain ρ u) selection_role (object ns))
+      ↔ (selection_record π t (object ms) ≡ selection_record ρ u (object ns))
   record_told = by_class (class_of_object selection_role (object ms)) (class_of_object selection_role (object ns)) refl refl
 
 -- ---- the selections of one contest
@@ -149,10 +156,12 @@ module _ (π : Preference) (t : Data) where
   told_name : (n : NameParts) (d : Data) → name_of π t d ≡ Some n → has_name n d ≡ true
   told_name n d e = ap (λ o. is_eq (names_cmp o (Some n))) e ∙ ap is_eq (tied_itself names_total (Some n))
 
-  apart : (n : NameParts) (d : Data) (ds : List Data) → has_name n d ≡ true → AllByRecursion (λ e. eq_by_cmp by_name d e ≡ false) ds → AllByRecursion (λ e. has_name n e ≡ false) ds
+  apart : (n : NameParts) (d : Data) (ds : List Data) → has_name n d ≡ true → AllByRecursion (λ e. eq_by_cmp by_name d e ≡ false) ds
+      → AllByRecursion (λ e. has_name n e ≡ false) ds
   apart n d [] e h = tt
   apart n d (x ∷ ds) e h = (
-    ap is_eq (names_total.antisymm (name_of π t x) (Some n)) ∙ turned (names_cmp (Some n) (name_of π t x)) ∙ ap (λ o. is_eq (names_cmp o (name_of π t x))) (sym (name_told n d e)) ∙ h.0,
+    ap is_eq (names_total.antisymm (name_of π t x) (Some n)) ∙ turned (names_cmp (Some n) (name_of π t x)) ∙ ap (λ o. is_eq (names_cmp o (name_of π t x)))
+        (sym (name_told n d e)) ∙ h.0,
     apart n d ds e h.1,
   )
 
@@ -166,12 +175,14 @@ module _ (π : Preference) (t : Data) where
   distinct_names [] h = tt
   distinct_names (d ∷ ds) h = (each ds h.0, distinct_names ds h.1)
     where
-      each : (es : List Data) → AllByRecursion (λ e. eq_by_cmp by_name d e ≡ false) es → AllByRecursion (λ n. eq_by_cmp names_cmp (name_of π t d) n ≡ false) (map (name_of π t) es)
+      each : (es : List Data) → AllByRecursion (λ e. eq_by_cmp by_name d e ≡ false) es
+          → AllByRecursion (λ n. eq_by_cmp names_cmp (name_of π t d) n ≡ false) (map (name_of π t) es)
       each [] g = tt
       each (e ∷ es) g = (g.0, each es g.1)
 
   -- what the map has at the name of a selection
-  at_name : (ds : List Data) → IsDistinct (eq_by_cmp by_name) ds → (d : Data) → In d ds → (n : NameParts) → name_of π t d ≡ Some n → selection_map π t ds n ≡ selection_record π t d
+  at_name : (ds : List Data) → IsDistinct (eq_by_cmp by_name) ds → (d : Data) → In d ds → (n : NameParts) → name_of π t d ≡ Some n → selection_map π t ds n
+      ≡ selection_record π t d
   at_name ds h d i n e = ap (option_and_then (selection_record π t)) (own (has_name n) ds d (once n ds h) i (told_name n d e))
 
   -- a selection with a name has a record
@@ -195,11 +206,14 @@ module _ (π ρ : Preference) (t u : Data) where
   fits_of : (σ : Preference) (v d : Data) → IsSelection σ v d → Fits (name_of σ v d)
   fits_of σ v d s = subst Fits (sym s.named) s.fits
 
-  one_record : (d e : Data) → IsSelection π t d → IsSelection ρ u e → (record_data (shown_plain π t) selection_role d ≡ record_data (shown_plain ρ u) selection_role e) ↔ (selection_record π t d ≡ selection_record ρ u e)
+  one_record : (d e : Data) → IsSelection π t d → IsSelection ρ u e
+      → (record_data (shown_plain π t) selection_role d ≡ record_data (shown_plain ρ u) selection_role e) ↔ (selection_record π t d ≡ selection_record ρ u e)
   one_record d e s r =
       let told = record_told π ρ t u s.ms r.ms s.rise r.rise s.fit r.fit in
-      subst (λ x. (record_data (shown_plain π t) selection_role x ≡ record_data (shown_plain ρ u) selection_role e) ↔ (selection_record π t x ≡ selection_record ρ u e)) (sym s.is_object)
-      (subst (λ y. (record_data (shown_plain π t) selection_role (object s.ms) ≡ record_data (shown_plain ρ u) selection_role y) ↔ (selection_record π t (object s.ms) ≡ selection_record ρ u y)) (sym r.is_object) told)
+      subst (λ x. (record_data (shown_plain π t) selection_role x ≡ record_data (shown_plain ρ u) selection_role e)
+      ↔ (selection_record π t x ≡ selection_record ρ u e)) (sym s.is_object)
+      (subst (λ y. (record_data (shown_plain π t) selection_role (object s.ms) ≡ record_data (shown_plain ρ u) selection_role y)
+      ↔ (selection_record π t (object s.ms) ≡ selection_record ρ u y)) (sym r.is_object) told)
 
   abbrev one : Data → Data
   one d = selection_record_data π t d
@@ -222,18 +236,21 @@ module _ (π ρ : Preference) (t u : Data) where
   in_step n (x ∷ xs) (y ∷ ys) g h e =
       let first : one x ≡ other y = cc in
       let rest : map one xs ≡ map other ys = cc in
-      at (has_name π t n x) (has_name ρ u n y) (ap (λ o. is_eq (names_cmp o (Some n))) (names_from x y g.0 h.0 first)) ((one_record x y g.0 h.0).0 (records_from x y first)) (in_step n xs ys g.1 h.1 rest)
+      at (has_name π t n x) (has_name ρ u n y) (ap (λ o. is_eq (names_cmp o (Some n))) (names_from x y g.0 h.0 first))
+      ((one_record x y g.0 h.0).0 (records_from x y first)) (in_step n xs ys g.1 h.1 rest)
     where
       at : (a b : Bool) → a ≡ b → selection_record π t x ≡ selection_record ρ u y
           → option_and_then (selection_record π t) (find (has_name π t n) xs) ≡ option_and_then (selection_record ρ u) (find (has_name ρ u n) ys)
-          → option_and_then (selection_record π t) (cond a (Some x) (find (has_name π t n) xs)) ≡ option_and_then (selection_record ρ u) (cond b (Some y) (find (has_name ρ u n) ys))
+          → option_and_then (selection_record π t) (cond a (Some x) (find (has_name π t n) xs)) ≡ option_and_then (selection_record ρ u)
+          (cond b (Some y) (find (has_name ρ u n) ys))
       at true true e here later = here
       at false false e here later = later
       at true false e here later = cc
       at false true e here later = cc
 
   -- and back
-  pair_up : (xs ys : List Data) → ((x y : Data) → In x xs → In y ys → name_of π t x ≡ name_of ρ u y → one x ≡ other y) → map (name_of π t) xs ≡ map (name_of ρ u) ys → map one xs ≡ map other ys
+  pair_up : (xs ys : List Data) → ((x y : Data) → In x xs → In y ys → name_of π t x ≡ name_of ρ u y → one x ≡ other y) → map (name_of π t) xs
+      ≡ map (name_of ρ u) ys → map one xs ≡ map other ys
   pair_up [] [] each e = refl
   pair_up [] (y ∷ ys) each e = cc
   pair_up (x ∷ xs) [] each e = cc
@@ -257,14 +274,16 @@ module _ (π ρ : Preference) (t u : Data) where
           let r = In-map_from (name_of π t) ds o i in
           let s = In-all (IsSelection π t) r.0 ds left.0 r.1 in
           subst (λ x. In x (map (name_of ρ u) es)) (sym s.named ∙ r.2)
-          (named_in ρ u es s.name (λ none. has_record π t r.0 s.name s.named (sym (at_name π t ds left.1 r.0 r.1 s.name s.named) ∙ ap (λ f. f s.name) same ∙ none)))
+          (named_in ρ u es s.name
+          (λ none. has_record π t r.0 s.name s.named (sym (at_name π t ds left.1 r.0 r.1 s.name s.named) ∙ ap (λ f. f s.name) same ∙ none)))
 
       back : (o : Option NameParts) → In o (map (name_of ρ u) es) → In o (map (name_of π t) ds)
       back o i =
           let r = In-map_from (name_of ρ u) es o i in
           let s = In-all (IsSelection ρ u) r.0 es right.0 r.1 in
           subst (λ x. In x (map (name_of π t) ds)) (sym s.named ∙ r.2)
-          (named_in π t ds s.name (λ none. has_record ρ u r.0 s.name s.named (sym (at_name ρ u es right.1 r.0 r.1 s.name s.named) ∙ sym (ap (λ f. f s.name) same) ∙ none)))
+          (named_in π t ds s.name
+          (λ none. has_record ρ u r.0 s.name s.named (sym (at_name ρ u es right.1 r.0 r.1 s.name s.named) ∙ sym (ap (λ f. f s.name) same) ∙ none)))
 
       names : map (name_of π t) (rising_list (by_name π t) ds) ≡ map (name_of ρ u) (rising_list (by_name ρ u) es)
       names =

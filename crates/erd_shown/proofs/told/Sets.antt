@@ -1,5 +1,6 @@
 -- Sets are written alike if and only if they are the same sets.
-use Rattle.erd_text.proofs.Common.{◌≡◌, true, List, [], ◌∷◌, map, is_eq, Ordering, sym, refl, ap, ap₂, ◌∙◌, subst, fun_ext, both_ways, tied_itself, IsTotalOrder, IsDistinct, eq_by_cmp, Data, items_of, list_of_items, In, In-any, any_at, rising_unique, rising_list}
+use Rattle.erd_text.proofs.Common.{◌≡◌, true, List, [], ◌∷◌, map, is_eq, Ordering, sym, refl, ap, ap₂, ◌∙◌, subst, fun_ext, both_ways, tied_itself}
+use Rattle.erd_text.proofs.Common.{IsTotalOrder, IsDistinct, eq_by_cmp, Data, items_of, list_of_items, In, In-any, any_at, rising_unique, rising_list}
 use Rattle.std.specs.Cmp.{Equal-is}
 use Rattle.erd_check.proofs.Lists.{list_of_items-items_of}
 use Rattle.erd_text.proofs.RisingOrders.{rising_strictly, In-rising, rising-In}
@@ -14,7 +15,8 @@ use Rattle.erd_shown.specs.code.Fitting.{KeysTell}
 
 module _ {A : Type 0} (cmp : A → A → Ordering) (order : IsTotalOrder cmp) where
   -- distinct entries have one rising order
-  pub one_order : (xs ys : List A) → IsDistinct (eq_by_cmp cmp) xs → IsDistinct (eq_by_cmp cmp) ys → ((x : A) → In x xs → In x ys) → ((y : A) → In y ys → In y xs)
+  pub one_order : (xs ys : List A) → IsDistinct (eq_by_cmp cmp) xs → IsDistinct (eq_by_cmp cmp) ys → ((x : A) → In x xs → In x ys)
+      → ((y : A) → In y ys → In y xs)
       → rising_list cmp xs ≡ rising_list cmp ys
   one_order xs ys left right to from =
       rising_unique cmp order (rising_list cmp xs) (rising_list cmp ys) (rising_strictly order xs left) (rising_strictly order ys right)
@@ -53,13 +55,16 @@ key_in ks k h = let r = In-any (λ l. is_eq (key_cmp l k)) ks h in subst (λ l. 
 in_keys : (ks : List Key) (k : Key) → In k ks → key_set ks k ≡ true
 in_keys ks k i = any_at (λ l. is_eq (key_cmp l k)) k ks i (ap is_eq (tied_itself key_cmp_total k))
 
-pub keys_from : (ks ls : List Key) → IsDistinct (eq_by_cmp key_cmp) ks → IsDistinct (eq_by_cmp key_cmp) ls → key_set ks ≡ key_set ls → rising_list key_cmp ks ≡ rising_list key_cmp ls
+pub keys_from : (ks ls : List Key) → IsDistinct (eq_by_cmp key_cmp) ks → IsDistinct (eq_by_cmp key_cmp) ls → key_set ks ≡ key_set ls → rising_list key_cmp ks
+    ≡ rising_list key_cmp ls
 keys_from ks ls left right same =
-    one_order key_cmp key_cmp_total ks ls left right (λ k i. key_in ls k (sym (ap (λ s. s k) same) ∙ in_keys ks k i)) (λ k i. key_in ks k (ap (λ s. s k) same ∙ in_keys ls k i))
+    one_order key_cmp key_cmp_total ks ls left right (λ k i. key_in ls k (sym (ap (λ s. s k) same) ∙ in_keys ks k i))
+    (λ k i. key_in ks k (ap (λ s. s k) same ∙ in_keys ls k i))
 
 pub to_keys : (ks ls : List Key) → rising_list key_cmp ks ≡ rising_list key_cmp ls → key_set ks ≡ key_set ls
 to_keys ks ls e =
-    fun_ext (λ k. both_ways (key_set ks k) (key_set ls k) (λ h. in_keys ls k (same_entries key_cmp ks ls e k (key_in ks k h))) (λ h. in_keys ks k (same_entries key_cmp ls ks (sym e) k (key_in ls k h))))
+    fun_ext (λ k. both_ways (key_set ks k) (key_set ls k) (λ h. in_keys ls k (same_entries key_cmp ks ls e k (key_in ks k h)))
+    (λ h. in_keys ks k (same_entries key_cmp ls ks (sym e) k (key_in ls k h))))
 
 pub keys_tell : KeysTell
 keys_tell π ρ t u f ds es left right = (

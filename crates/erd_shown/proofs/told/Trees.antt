@@ -1,17 +1,19 @@
 -- What is written is a tree.
-use Rattle.erd_text.proofs.Common.{◌≡◌, ℕ, Bool, true, false, cond, List, [], ◌∷◌, map, Some, None, Option, option_and_then, as_str, codes, sym, refl, subst, Data, null, items_of, entries_of, MemberKind, kind, pos, negsuc}
+use Rattle.erd_text.proofs.Common.{◌≡◌, ℕ, Bool, true, false, cond, List, [], ◌∷◌, map, Some, None, Option, option_and_then, as_str, codes, sym, refl, subst}
+use Rattle.erd_text.proofs.Common.{Data, null, items_of, entries_of, MemberKind, kind, pos, negsuc}
 use Rattle.std.specs.Prelude.{ℤ}
-use Rattle.serde_json.specs.Data.{number, unsigned, negative}
+use Rattle.serde_json.specs.Data.{array, no_items, number, unsigned, negative}
 use Rattle.erd_text.specs.RisingLists.{rising_list}
-use Rattle.erd_check.specs.Faults.{is_empty_array}
 use Rattle.erd_check.specs.Trees.{AreTrees, IsTree}
 use Rattle.erd_check.proofs.ReadTrees.{put-trees}
 use Rattle.erd_meaning.specs.Keys.{Preference, key_cmp}
 use Rattle.erd_meaning.specs.NameParts.{NameParts}
+use Rattle.erd_meaning.specs.Records.{unless_empty}
 use Rattle.erd_meaning.specs.SelectionNames.{key_named, keys_named}
-use Rattle.erd_shown.specs.Shown.{shown_value, unless_no_entry}
+use Rattle.erd_shown.specs.Shown.{shown_value}
 use Rattle.erd_meaning.specs.declared.keys.key.Key.{Key}
-use Rattle.erd_shown.proofs.told.Contents.{Parts, no_part, first_part, Part, contest_part, header_part, written, written_part, Good, GoodPart, parts_of, content_written, content_good}
+use Rattle.erd_shown.proofs.told.Contents.{Parts, no_part, first_part, Part, contest_part, header_part, written, written_part, Good, GoodPart, parts_of}
+use Rattle.erd_shown.proofs.told.Contents.{content_written, content_good}
 use Rattle.erd_shown.proofs.told.Labels.{set_trees}
 use Rattle.erd_shown.specs.KeyData.{shown_key, shown_key_or_null, shown_text_or_null, shown_name, shown_order, shown_whole}
 use Rattle.erd_shown.specs.code.Fitting.{IsFit, a_text, an_object}
@@ -42,7 +44,8 @@ label_tree (Some s) = tt
 
 pub name_tree : (n : Option NameParts) → IsTree (shown_name n)
 name_tree None = tt
-name_tree (Some n) = (tt, (each_tree shown_key (λ k. (tt, (tt, (tt, tt)))) n.keys, (tt, (order_tree n.order, (label_tree n.label, (key_tree n.identifier, tt))))))
+name_tree (Some n) =
+    (tt, (each_tree shown_key (λ k. (tt, (tt, (tt, tt)))) n.keys, (tt, (order_tree n.order, (label_tree n.label, (key_tree n.identifier, tt))))))
 
 mutual
   written_trees : (p : Parts) → Good p → AreTrees (written p)
@@ -57,12 +60,9 @@ mutual
 same_tree : {x v : Data} → IsTree x → Some x ≡ Some v → IsTree v
 same_tree {x} {v} h e = let same : x ≡ v = cc in subst IsTree same h
 
-pub unless_tree : (d x v : Data) → IsTree x → unless_no_entry d x ≡ Some v → IsTree v
-unless_tree d x v h = at (is_empty_array d)
-  where
-    at : (b : Bool) → cond b None (Some x) ≡ Some v → IsTree v
-    at true e = cc
-    at false e = same_tree h e
+pub unless_tree : (d x v : Data) → IsTree x → unless_empty x d ≡ Some v → IsTree v
+unless_tree (array no_items) x v h e = cc
+unless_tree d x v h e = same_tree h e
 
 pub shown_tree : (π : Preference) (t : Data) (k : MemberKind) (d v : Data) → IsTree d → IsFit π t k d → shown_value π t k d ≡ Some v → IsTree v
 shown_tree π t kind.Word d v h g e = same_tree h e
@@ -72,7 +72,8 @@ shown_tree π t kind.Carried d v h g e = same_tree h e
 shown_tree π t kind.Label d v h (a_text s) e = same_tree tt e
 shown_tree π t kind.Label d v h (an_object ms tree type set) e = same_tree (put-trees (codes "Text") _ ms tree (set_trees _ set)) e
 shown_tree π t (kind.One f) d v h g e = same_tree (key_tree (option_and_then (key_named π t f) (as_str d))) e
-shown_tree π t (kind.Many f) d v h g e = unless_tree d _ v (each_tree shown_key (λ k. (tt, (tt, (tt, tt)))) (rising_list key_cmp (keys_named π t f (entries_of d)))) e
+shown_tree π t (kind.Many f) d v h g e =
+    unless_tree d _ v (each_tree shown_key (λ k. (tt, (tt, (tt, tt)))) (rising_list key_cmp (keys_named π t f (entries_of d)))) e
 shown_tree π t kind.Identifiers d v h g e = unless_tree d _ v (set_trees (entries_of d) g) e
 shown_tree π t kind.Languages d v h g e = unless_tree d _ v (set_trees (entries_of d) g) e
 shown_tree π t kind.Content d v h g e =

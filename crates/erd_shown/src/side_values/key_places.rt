@@ -1,7 +1,6 @@
 //! Where an object with a key stands in a report.
 ghost use Rattle.std.specs.Prelude.{◌≡◌, None, Some, option_and_then, option_copied, slice_get};
 ghost use Rattle.std.specs.Option.{option_cmp};
-ghost use Rattle.std.specs.Ordering.{is_eq};
 ghost use Rattle.serde_json.specs.View.{view};
 ghost use Rattle.serde_json.specs.Data.{Data};
 ghost use Rattle.erd_meaning.specs.Keys.{Preference, key_cmp};
@@ -12,6 +11,7 @@ ghost use Rattle.erd_shown.specs.SideValues.{object_with_key};
 
 use erd_meaning::{Key, Report};
 use erd_tables::{Family, Role};
+use std::cmp::Ordering;
 
 /// Returns the position of the object with a role and a key, or without a key, if there is one.
 pub(crate) fn place_with_key(report: &Report, role: Role, key: Option<&Key>) -> Option<usize>
@@ -45,45 +45,45 @@ fn place_in_family(report: &Report, family: Family, key: Option<&Key>) -> Option
     report.find(family, key?)
 }
 
-/// Returns the position of the first election with a key, or without a key, if there is one.
+/// Returns the position of the election with a key, or without a key, if there is one. It is sought in the order of the keys.
 fn place_of_election(report: &Report, key: Option<&Key>) -> Option<usize>
     ensures { option_and_then (slice_get (elections (view report.now.tree))) result ≡ election_with_key report.now.prefer (view report.now.tree)
         (option_copied key.entry) }
 {
-    for index in 0..report.election_count() {
-        if is_one_key(report.election_key(index), key) {
-            return Some(index);
-        }
+    let _tree = report.tree();
+    let rising = report.rising_elections();
+    match rising.binary_search_by(|place| order_of_keys(report.election_key(*place), key)) {
+        Ok(index) => Some(rising[index]),
+        Err(_) => None,
     }
-    None
 }
 
-/// Returns whether two keys, of which either may be missing, are one.
-fn is_one_key(one: Option<&Key>, other: Option<&Key>) -> bool
-    ensures { result ≡ is_eq (option_cmp key_cmp (option_copied one.entry) (option_copied other.entry)) }
+/// Compares two keys, of which either may be missing. A missing key is less than any.
+fn order_of_keys(one: Option<&Key>, other: Option<&Key>) -> Ordering
+    ensures { result ≡ option_cmp key_cmp (option_copied one.entry) (option_copied other.entry) }
 {
     match one {
-        Some(one) => is_key(one, other),
-        None => is_missing(other),
+        Some(one) => order_of_key(one, other),
+        None => order_of_none(other),
     }
 }
 
-/// Returns whether a key is missing.
-fn is_missing(key: Option<&Key>) -> bool
-    ensures { result ≡ is_eq (option_cmp key_cmp None (option_copied key.entry)) }
+/// Compares no key with a key, which may be missing too.
+fn order_of_none(key: Option<&Key>) -> Ordering
+    ensures { result ≡ option_cmp key_cmp None (option_copied key.entry) }
 {
     match key {
-        Some(_) => false,
-        None => true,
+        Some(_) => Ordering::Less,
+        None => Ordering::Equal,
     }
 }
 
-/// Returns whether a key is another one, if there is another one.
-fn is_key(one: &Key, other: Option<&Key>) -> bool
-    ensures { result ≡ is_eq (option_cmp key_cmp (Some one.now) (option_copied other.entry)) }
+/// Compares a key with another one, which may be missing.
+fn order_of_key(one: &Key, other: Option<&Key>) -> Ordering
+    ensures { result ≡ option_cmp key_cmp (Some one.now) (option_copied other.entry) }
 {
     match other {
-        Some(other) => one.cmp(other).is_eq(),
-        None => false,
+        Some(other) => one.cmp(other),
+        None => Ordering::Greater,
     }
 }

@@ -1,7 +1,7 @@
 //! Examples of the calls on ballots.
 use crate::examples::engines::answers;
 use crate::examples::shown::{
-    BALLOT, BESIDE, DIFFERENCE_LINE, DIFFERS, HEAD_LINE, HEADS, UNLISTED,
+    BALLOT, BESIDE, DIFFERENCE_LINES, DIFFERS, HEAD_LINE, HEADS, UNLISTED,
 };
 use erd_canon::{
     BallotsAsked, Outcome, PairCommand, ReadFrom, ReportCommand, WriteTo,
@@ -75,7 +75,7 @@ fn heads(rt: HostRuntime) {
 fn differences(rt: HostRuntime) {
     let (alloc, other) = (rt.alloc(), (BALLOT, UNLISTED));
     let command = PairCommand::BallotDifferences;
-    assert!(rt; answers(alloc, other, command, Outcome::Bad, DIFFERENCE_LINE));
+    assert!(rt; answers(alloc, other, command, Outcome::Bad, DIFFERENCE_LINES));
     let command = PairCommand::BallotDifferencesData;
     assert!(rt; answers(alloc, (BALLOT, BALLOT), command, Outcome::Good, "[]\n"));
 }

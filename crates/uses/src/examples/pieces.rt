@@ -16,8 +16,9 @@ fn second_fault(rt: HostRuntime) -> Result<(), Fail> {
     };
     let answer = check_data_piece(alloc, BARE.as_bytes(), None, &piece)?;
     let fault = r#"[{"name":"Status","place":[],"reason":2}]"#;
-    assert!(rt; answer.text.as_slice() == fault.as_bytes());
-    assert!(rt; answer.told.count == 1 && answer.told.all == 2);
+    assert!(rt;
+        answer.text.as_slice() == fault.as_bytes() && answer.told.count == 1 && answer.told.all == 2
+    );
     Ok(())
 }
 
@@ -44,8 +45,9 @@ fn first_fault_of_a_side(rt: HostRuntime) -> Result<(), Fail> {
     };
     let answer = compare_data_piece(alloc, BARE.as_bytes(), one, None, &piece)?;
     let why = r#"{"faults":[{"name":"Election","place":[],"reason":2}],"refused":"left"}"#;
-    assert!(rt; answer.text.as_slice() == why.as_bytes());
-    assert!(rt; answer.told.count == 1 && answer.told.all == 2);
+    assert!(rt;
+        answer.text.as_slice() == why.as_bytes() && answer.told.count == 1 && answer.told.all == 2
+    );
     Ok(())
 }
 
@@ -58,8 +60,11 @@ fn no_second_difference(rt: HostRuntime) -> Result<(), Fail> {
         enough_bytes: 1_048_576,
     };
     let answer = differences_data_piece(alloc, one, other, None, &piece)?;
-    assert!(rt; answer.text.as_slice() == "[]".as_bytes());
-    assert!(rt; answer.outcome.status() == 1 && answer.told.all == 1);
+    assert!(rt;
+        answer.text.as_slice() == "[]".as_bytes()
+            && answer.outcome.status() == 1
+            && answer.told.all == 1
+    );
     Ok(())
 }
 

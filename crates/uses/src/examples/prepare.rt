@@ -8,12 +8,20 @@ use std::process::Abort;
 use std::test::Fail;
 
 // The report of the other examples, with a member that has no value.
-const WITH_A_NULL: &str =
-    r#"{"@type":"ElectionResults.ElectionReport","Notes":null,"Status":"pre-election","GpUnit":[{"@id":"u7","@type":"ElectionResults.ReportingUnit","Type":"county","ExternalIdentifier":[{"@type":"ElectionResults.ExternalIdentifier","Type":"local-level","Value":"U1"}]}],"Election":[{"@type":"ElectionResults.Election","Name":"Test","Type":"general","StartDate":"2026-11-03","EndDate":"2026-11-03","ElectionScopeId":"u7"}]}"#;
+const WITH_A_NULL: &str = concat!(
+    r#"{"@type":"ElectionResults.ElectionReport","Notes":null,"Status":"pre-election","GpUnit":[{"@id":"u7","#,
+    r#""@type":"ElectionResults.ReportingUnit","Type":"county","ExternalIdentifier":[{"@type":"ElectionResults.ExternalIdentifier","#,
+    r#""Type":"local-level","Value":"U1"}]}],"Election":[{"@type":"ElectionResults.Election","Name":"Test","Type":"general","#,
+    r#""StartDate":"2026-11-03","EndDate":"2026-11-03","ElectionScopeId":"u7"}]}"#,
+);
 
 // It without this member, each object in the order of the names of its members.
-const PREPARED: &str =
-    r#"{"@type":"ElectionResults.ElectionReport","Election":[{"@type":"ElectionResults.Election","ElectionScopeId":"u7","EndDate":"2026-11-03","Name":"Test","StartDate":"2026-11-03","Type":"general"}],"GpUnit":[{"@id":"u7","@type":"ElectionResults.ReportingUnit","ExternalIdentifier":[{"@type":"ElectionResults.ExternalIdentifier","Type":"local-level","Value":"U1"}],"Type":"county"}],"Status":"pre-election"}"#;
+const PREPARED: &str = concat!(
+    r#"{"@type":"ElectionResults.ElectionReport","Election":[{"@type":"ElectionResults.Election","ElectionScopeId":"u7","#,
+    r#""EndDate":"2026-11-03","Name":"Test","StartDate":"2026-11-03","Type":"general"}],"GpUnit":[{"@id":"u7","#,
+    r#""@type":"ElectionResults.ReportingUnit","ExternalIdentifier":[{"@type":"ElectionResults.ExternalIdentifier","#,
+    r#""Type":"local-level","Value":"U1"}],"Type":"county"}],"Status":"pre-election"}"#,
+);
 
 fn wrote(rt: &impl Abort, out: &WriteTo<Vec<u8>>, wanted: &str) {
     assert!(rt; out.writer.as_slice() == wanted.as_bytes());

@@ -15,8 +15,17 @@ use std::process::Abort;
 use std::test::Fail;
 
 // A county with an election, a candidate, and a contest with a selection of the candidate and a write-in line.
-const BALLOT: &str =
-    r#"{"@type":"ElectionResults.ElectionReport","Status":"pre-election","GpUnit":[{"@id":"u7","@type":"ElectionResults.ReportingUnit","Type":"county","ExternalIdentifier":[{"@type":"ElectionResults.ExternalIdentifier","Type":"local-level","Value":"U1"},{"@type":"ElectionResults.ExternalIdentifier","Type":"fips","Value":"20"}]}],"Election":[{"@type":"ElectionResults.Election","Name":"Test","Type":"general","StartDate":"2026-11-03","EndDate":"2026-11-03","ElectionScopeId":"u7","Candidate":[{"@id":"k1","@type":"ElectionResults.Candidate","BallotName":"Ann","ExternalIdentifier":[{"@type":"ElectionResults.ExternalIdentifier","Type":"local-level","Value":"K1"}]}],"Contest":[{"@id":"c1","@type":"ElectionResults.CandidateContest","Name":"Mayor","ElectionDistrictId":"u7","VotesAllowed":1,"ExternalIdentifier":[{"@type":"ElectionResults.ExternalIdentifier","Type":"local-level","Value":"C1"}],"ContestSelection":[{"@id":"s1","@type":"ElectionResults.CandidateSelection","CandidateIds":["k1"]},{"@id":"s2","@type":"ElectionResults.CandidateSelection","IsWriteIn":true}]}]}]}"#;
+const BALLOT: &str = concat!(
+    r#"{"@type":"ElectionResults.ElectionReport","Status":"pre-election","GpUnit":[{"@id":"u7","@type":"ElectionResults.ReportingUnit","#,
+    r#""Type":"county","ExternalIdentifier":[{"@type":"ElectionResults.ExternalIdentifier","Type":"local-level","Value":"U1"},"#,
+    r#"{"@type":"ElectionResults.ExternalIdentifier","Type":"fips","Value":"20"}]}],"Election":[{"@type":"ElectionResults.Election","#,
+    r#""Name":"Test","Type":"general","StartDate":"2026-11-03","EndDate":"2026-11-03","ElectionScopeId":"u7","Candidate":[{"@id":"k1","#,
+    r#""@type":"ElectionResults.Candidate","BallotName":"Ann","ExternalIdentifier":[{"@type":"ElectionResults.ExternalIdentifier","#,
+    r#""Type":"local-level","Value":"K1"}]}],"Contest":[{"@id":"c1","@type":"ElectionResults.CandidateContest","Name":"Mayor","#,
+    r#""ElectionDistrictId":"u7","VotesAllowed":1,"ExternalIdentifier":[{"@type":"ElectionResults.ExternalIdentifier","#,
+    r#""Type":"local-level","Value":"C1"}],"ContestSelection":[{"@id":"s1","@type":"ElectionResults.CandidateSelection","#,
+    r#""CandidateIds":["k1"]},{"@id":"s2","@type":"ElectionResults.CandidateSelection","IsWriteIn":true}]}]}]}"#,
+);
 
 // The key with these texts, which has no `OtherType`.
 fn key(alloc: Global, kind: &str, value: &str) -> Result<Key, AllocError> {
@@ -25,18 +34,6 @@ fn key(alloc: Global, kind: &str, value: &str) -> Result<Key, AllocError> {
         other: Text::of(String::new(alloc)),
         value: Text::of(String::from_str(alloc, value)?),
     })
-}
-
-fn tree_of_report(rt: &impl Abort, tree: &Value, report: &Report) {
-    assert!(rt; same_json(report.tree(), tree));
-}
-
-fn preference(rt: &impl Abort, report: &Report) {
-    assert!(rt; report.preference().is_none());
-}
-
-fn count_of_elections(rt: &impl Abort, report: &Report) {
-    assert!(rt; report.election_count() == 1);
 }
 
 fn election(rt: &impl Abort, report: &Report) -> Result<(), Fail> {
@@ -49,48 +46,19 @@ fn election(rt: &impl Abort, report: &Report) -> Result<(), Fail> {
     Ok(())
 }
 
-fn key_of_election(rt: &impl Abort, report: &Report) {
-    assert!(rt; report.election_key(0).is_none());
-}
-
-fn election_of_candidate(rt: &impl Abort, report: &Report) {
-    assert!(rt; report.election_of(Family::Candidate, 0) == Some(0));
-}
-
-fn count_of_selections(rt: &impl Abort, report: &Report) {
-    assert!(rt; report.count(Family::Selection) == 2);
-}
-
-fn candidates(rt: &impl Abort, report: &Report) {
-    assert!(rt; report.object(Family::Candidate, 0).is_some());
-    assert!(rt; report.object(Family::Candidate, 1).is_none());
-}
-
-fn target(rt: &impl Abort, report: &Report) {
-    assert!(rt; report.target("k1") == Some((Family::Candidate, 0)));
-}
-
-fn target_of(rt: &impl Abort, report: &Report) {
-    assert!(rt; report.target_of(Family::Contest, "k1") == Some((Family::Candidate, 0)));
-}
-
-fn first_selection(rt: &impl Abort, report: &Report) {
-    assert!(rt; report.first_selection(0) == 0);
-}
-
 // What the report has, by position.
-fn positions(rt: &impl Abort, tree: &Value, report: &Report) -> Result<(), Fail> {
-    tree_of_report(rt, tree, report);
-    preference(rt, report);
-    count_of_elections(rt, report);
-    key_of_election(rt, report);
-    election_of_candidate(rt, report);
-    count_of_selections(rt, report);
-    candidates(rt, report);
-    target(rt, report);
-    target_of(rt, report);
-    first_selection(rt, report);
-    election(rt, report)
+fn has_positions(tree: &Value, report: &Report) -> bool {
+    same_json(report.tree(), tree)
+        && report.preference().is_none()
+        && report.election_count() == 1
+        && report.election_key(0).is_none()
+        && report.election_of(Family::Candidate, 0) == Some(0)
+        && report.count(Family::Selection) == 2
+        && report.object(Family::Candidate, 0).is_some()
+        && report.object(Family::Candidate, 1).is_none()
+        && report.target("k1") == Some((Family::Candidate, 0))
+        && report.target_of(Family::Contest, "k1") == Some((Family::Candidate, 0))
+        && report.first_selection(0) == 0
 }
 
 fn sorted_places(rt: &impl Abort, alloc: Global) -> Result<(), Fail> {
@@ -98,15 +66,13 @@ fn sorted_places(rt: &impl Abort, alloc: Global) -> Result<(), Fail> {
     Ok(())
 }
 
+// The key of the unit, and the unit of the key.
 fn key_of_unit(rt: &impl Abort, alloc: Global, report: &Report) -> Result<(), Fail> {
     let county = key(alloc, "fips", "20")?;
-    assert!(rt; report.key_at(Family::Unit, 0) == Some(&county));
-    Ok(())
-}
-
-fn unit_of_key(rt: &impl Abort, alloc: Global, report: &Report) -> Result<(), Fail> {
-    let county = key(alloc, "fips", "20")?;
-    assert!(rt; report.find(Family::Unit, &county) == Some(0));
+    assert!(rt;
+        report.key_at(Family::Unit, 0) == Some(&county)
+            && report.find(Family::Unit, &county) == Some(0)
+    );
     Ok(())
 }
 
@@ -115,53 +81,32 @@ fn rising_keys(rt: &impl Abort, alloc: Global, report: &Report) -> Result<(), Fa
     Ok(())
 }
 
-fn rising_units(rt: &impl Abort, report: &Report) {
-    assert!(rt; report.rising(Family::Unit).first() == Some(&0));
-}
-
-fn rank_of_candidate(rt: &impl Abort, report: &Report) {
-    assert!(rt; report.rank_at(Family::Candidate, 0) == Some(0));
-}
-
-fn rising_elections(rt: &impl Abort, report: &Report) {
-    assert!(rt; report.rising_elections().first() == Some(&0));
-}
-
-fn rank_of_election(rt: &impl Abort, report: &Report) {
-    assert!(rt; report.election_rank_at(0) == Some(0));
-}
-
 // The positions of objects and elections in the order of their keys.
-fn places(rt: &impl Abort, report: &Report) {
-    rising_units(rt, report);
-    rank_of_candidate(rt, report);
-    rising_elections(rt, report);
-    rank_of_election(rt, report);
+fn has_ranks(report: &Report) -> bool {
+    report.rising(Family::Unit).first() == Some(&0)
+        && report.rank_at(Family::Candidate, 0) == Some(0)
+        && report.rising_elections().first() == Some(&0)
+        && report.election_rank_at(0) == Some(0)
 }
 
 // What the report finds by names.
 fn names(rt: &impl Abort, alloc: Global, report: &Report) -> Result<(), Fail> {
     let (contest, name) = report.selection_at(1).ok_or("no write-in line")?;
-    assert!(rt; contest == 0);
-    selection_of_name(rt, report, contest, name);
+    assert!(rt; contest == 0 && report.find_selection(contest, name) == Some(1) && has_parts(name));
     lent_name(rt, alloc, name);
-    parts_of_name(rt, name);
-    missing_parts_of_name(rt, name);
     value_inside(rt, alloc, name)?;
     copied_name(rt, alloc, name)
 }
 
-fn parts_of_name(rt: &impl Abort, name: &SelectionName) {
-    assert!(rt; type_text(name.class()) == "ElectionResults.CandidateSelection");
-    assert!(rt; name.key_count() == 0);
-    assert!(rt; name.is_write_in());
-}
-
-fn missing_parts_of_name(rt: &impl Abort, name: &SelectionName) {
-    assert!(rt; name.key_at(0).is_none());
-    assert!(rt; name.sequence_order().is_none());
-    assert!(rt; name.label().is_none());
-    assert!(rt; name.identifier().is_none());
+// A write-in line has a class, and no other parts.
+fn has_parts(name: &SelectionName) -> bool {
+    type_text(name.class()) == "ElectionResults.CandidateSelection"
+        && name.key_count() == 0
+        && name.is_write_in()
+        && name.key_at(0).is_none()
+        && name.sequence_order().is_none()
+        && name.label().is_none()
+        && name.identifier().is_none()
 }
 
 fn value_inside(rt: &impl Abort, alloc: Global, name: &SelectionName) -> Result<(), Fail> {
@@ -177,10 +122,6 @@ fn value_inside(rt: &impl Abort, alloc: Global, name: &SelectionName) -> Result<
     Ok(())
 }
 
-fn selection_of_name(rt: &impl Abort, report: &Report, contest: usize, name: &SelectionName) {
-    assert!(rt; report.find_selection(contest, name) == Some(1));
-}
-
 fn copied_name(rt: &impl Abort, alloc: Global, name: &SelectionName) -> Result<(), Fail> {
     assert!(rt; name.try_clone(alloc)? == *name);
     Ok(())
@@ -188,47 +129,40 @@ fn copied_name(rt: &impl Abort, alloc: Global, name: &SelectionName) -> Result<(
 
 fn lent_name(rt: &impl Abort, alloc: Global, name: &SelectionName) {
     let lent = RankedName::of(name, Vec::new(alloc));
-    assert!(rt; lent == RankedName::of(name, Vec::new(alloc)));
-    assert!(rt; Named::name(name) == name);
+    assert!(rt; lent == RankedName::of(name, Vec::new(alloc)) && Named::name(name) == name);
 }
 
 // The names with the ranks of the keys in them.
 fn ranks(rt: &impl Abort, report: &Report) -> Result<(), Fail> {
     let (_, ranked) = report.ranked_name_at(0).ok_or("no selection")?;
-    assert!(rt; ranked.family() == Family::Candidate);
-    rank_of_name(rt, ranked);
-    write_in_line(rt, report, ranked)
-}
-
-fn rank_of_name(rt: &impl Abort, ranked: &RankedName<SelectionName>) {
-    assert!(rt; ranked.ranks().first() == Some(&0));
-}
-
-fn write_in_line(
-    rt: &impl Abort,
-    report: &Report,
-    ranked: &RankedName<SelectionName>,
-) -> Result<(), Fail> {
     let (_, write_in) = report.ranked_name_at(1).ok_or("no write-in line")?;
-    assert!(rt; write_in.compare(ranked) == Ordering::Less);
     let (_, name) = report.selection_at(1).ok_or("no write-in line")?;
-    assert!(rt; write_in.name() == name);
+    assert!(rt; are_ranked(ranked, write_in, name));
     Ok(())
+}
+
+fn are_ranked(
+    ranked: &RankedName<SelectionName>,
+    write_in: &RankedName<SelectionName>,
+    name: &SelectionName,
+) -> bool {
+    ranked.family() == Family::Candidate
+        && ranked.ranks().first() == Some(&0)
+        && write_in.compare(ranked) == Ordering::Less
+        && write_in.name() == name
 }
 
 // Numbers for keys of two reports, which are hashed under the salts of both.
 fn numbers(rt: &impl Abort, alloc: Global, report: &Report) -> Result<(), Fail> {
     let mut numbers = SaltedSet::new(alloc, report.salt().joined(&report.salt()));
-    assert!(rt; numbers.insert_full(20)? == (0, true));
-    assert!(rt; numbers.insert_full(20)? == (0, false));
+    assert!(rt; numbers.insert_full(20)? == (0, true) && numbers.insert_full(20)? == (0, false));
     Ok(())
 }
 
 fn look_ups(rt: &impl Abort, alloc: Global, tree: &Value, report: &Report) -> Result<(), Fail> {
-    positions(rt, tree, report)?;
-    places(rt, report);
+    assert!(rt; has_positions(tree, report) && has_ranks(report));
+    election(rt, report)?;
     key_of_unit(rt, alloc, report)?;
-    unit_of_key(rt, alloc, report)?;
     rising_keys(rt, alloc, report)?;
     names(rt, alloc, report)?;
     numbers(rt, alloc, report)?;
@@ -266,8 +200,10 @@ fn comparisons(rt: HostRuntime) -> Result<(), Fail> {
     let alloc = rt.alloc();
     let tree = Value::from_str(alloc, BALLOT)?;
     let report = report_of(alloc, &tree)?;
-    assert!(rt; first_difference(alloc, &report, &report)?.is_none());
-    assert!(rt; differences(alloc, &report, &report)?.is_empty());
+    assert!(rt;
+        first_difference(alloc, &report, &report)?.is_none()
+            && differences(alloc, &report, &report)?.is_empty()
+    );
     let none = detailed_differences(alloc, &report, &report, 0, 1_048_576)?;
     assert!(rt; none.is_empty());
     Ok(())

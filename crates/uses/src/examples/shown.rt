@@ -14,24 +14,62 @@ use std::process::Abort;
 use std::test::Fail;
 
 // A county with an election that has a key, a candidate, a contest with two selections, and a ballot that lists one of them.
-pub(crate) const BALLOT: &str =
-    r#"{"@type":"ElectionResults.ElectionReport","Status":"pre-election","GpUnit":[{"@id":"u7","@type":"ElectionResults.ReportingUnit","Type":"county","ExternalIdentifier":[{"@type":"ElectionResults.ExternalIdentifier","Type":"fips","Value":"20"}]}],"Election":[{"@type":"ElectionResults.Election","Name":"Test","Type":"general","StartDate":"2026-11-03","EndDate":"2026-11-03","ElectionScopeId":"u7","ExternalIdentifier":[{"@type":"ElectionResults.ExternalIdentifier","Type":"local-level","Value":"E1"}],"Candidate":[{"@id":"k1","@type":"ElectionResults.Candidate","BallotName":"Ann","ExternalIdentifier":[{"@type":"ElectionResults.ExternalIdentifier","Type":"local-level","Value":"K1"}]}],"Contest":[{"@id":"c1","@type":"ElectionResults.CandidateContest","Name":"Mayor","ElectionDistrictId":"u7","VotesAllowed":1,"ExternalIdentifier":[{"@type":"ElectionResults.ExternalIdentifier","Type":"local-level","Value":"C1"}],"ContestSelection":[{"@id":"s2","@type":"ElectionResults.CandidateSelection","IsWriteIn":true},{"@id":"s1","@type":"ElectionResults.CandidateSelection","CandidateIds":["k1"]}]}],"BallotStyle":[{"@type":"ElectionResults.BallotStyle","GpUnitIds":["u7"],"ExternalIdentifier":[{"@type":"ElectionResults.ExternalIdentifier","Type":"local-level","Value":"B1"}],"OrderedContent":[{"@type":"ElectionResults.OrderedContest","ContestId":"c1","OrderedContestSelectionIds":["s1"]}]}]}]}"#;
+pub(crate) const BALLOT: &str = concat!(
+    r#"{"@type":"ElectionResults.ElectionReport","Status":"pre-election","GpUnit":[{"@id":"u7","@type":"ElectionResults.ReportingUnit","#,
+    r#""Type":"county","ExternalIdentifier":[{"@type":"ElectionResults.ExternalIdentifier","Type":"fips","Value":"20"}]}],"#,
+    r#""Election":[{"@type":"ElectionResults.Election","Name":"Test","Type":"general","StartDate":"2026-11-03","EndDate":"2026-11-03","#,
+    r#""ElectionScopeId":"u7","ExternalIdentifier":[{"@type":"ElectionResults.ExternalIdentifier","Type":"local-level","Value":"E1"}],"#,
+    r#""Candidate":[{"@id":"k1","@type":"ElectionResults.Candidate","BallotName":"Ann","#,
+    r#""ExternalIdentifier":[{"@type":"ElectionResults.ExternalIdentifier","Type":"local-level","Value":"K1"}]}],"#,
+    r#""Contest":[{"@id":"c1","@type":"ElectionResults.CandidateContest","Name":"Mayor","ElectionDistrictId":"u7","VotesAllowed":1,"#,
+    r#""ExternalIdentifier":[{"@type":"ElectionResults.ExternalIdentifier","Type":"local-level","Value":"C1"}],"#,
+    r#""ContestSelection":[{"@id":"s2","@type":"ElectionResults.CandidateSelection","IsWriteIn":true},{"@id":"s1","#,
+    r#""@type":"ElectionResults.CandidateSelection","CandidateIds":["k1"]}]}],"BallotStyle":[{"@type":"ElectionResults.BallotStyle","#,
+    r#""GpUnitIds":["u7"],"ExternalIdentifier":[{"@type":"ElectionResults.ExternalIdentifier","Type":"local-level","Value":"B1"}],"#,
+    r#""OrderedContent":[{"@type":"ElectionResults.OrderedContest","ContestId":"c1","OrderedContestSelectionIds":["s1"]}]}]}]}"#,
+);
 
 // The same, and its ballot lists no selections.
-pub(crate) const UNLISTED: &str =
-    r#"{"@type":"ElectionResults.ElectionReport","Status":"pre-election","GpUnit":[{"@id":"u7","@type":"ElectionResults.ReportingUnit","Type":"county","ExternalIdentifier":[{"@type":"ElectionResults.ExternalIdentifier","Type":"fips","Value":"20"}]}],"Election":[{"@type":"ElectionResults.Election","Name":"Test","Type":"general","StartDate":"2026-11-03","EndDate":"2026-11-03","ElectionScopeId":"u7","ExternalIdentifier":[{"@type":"ElectionResults.ExternalIdentifier","Type":"local-level","Value":"E1"}],"Candidate":[{"@id":"k1","@type":"ElectionResults.Candidate","BallotName":"Ann","ExternalIdentifier":[{"@type":"ElectionResults.ExternalIdentifier","Type":"local-level","Value":"K1"}]}],"Contest":[{"@id":"c1","@type":"ElectionResults.CandidateContest","Name":"Mayor","ElectionDistrictId":"u7","VotesAllowed":1,"ExternalIdentifier":[{"@type":"ElectionResults.ExternalIdentifier","Type":"local-level","Value":"C1"}],"ContestSelection":[{"@id":"s2","@type":"ElectionResults.CandidateSelection","IsWriteIn":true},{"@id":"s1","@type":"ElectionResults.CandidateSelection","CandidateIds":["k1"]}]}],"BallotStyle":[{"@type":"ElectionResults.BallotStyle","GpUnitIds":["u7"],"ExternalIdentifier":[{"@type":"ElectionResults.ExternalIdentifier","Type":"local-level","Value":"B1"}],"OrderedContent":[{"@type":"ElectionResults.OrderedContest","ContestId":"c1"}]}]}]}"#;
+pub(crate) const UNLISTED: &str = concat!(
+    r#"{"@type":"ElectionResults.ElectionReport","Status":"pre-election","GpUnit":[{"@id":"u7","@type":"ElectionResults.ReportingUnit","#,
+    r#""Type":"county","ExternalIdentifier":[{"@type":"ElectionResults.ExternalIdentifier","Type":"fips","Value":"20"}]}],"#,
+    r#""Election":[{"@type":"ElectionResults.Election","Name":"Test","Type":"general","StartDate":"2026-11-03","EndDate":"2026-11-03","#,
+    r#""ElectionScopeId":"u7","ExternalIdentifier":[{"@type":"ElectionResults.ExternalIdentifier","Type":"local-level","Value":"E1"}],"#,
+    r#""Candidate":[{"@id":"k1","@type":"ElectionResults.Candidate","BallotName":"Ann","#,
+    r#""ExternalIdentifier":[{"@type":"ElectionResults.ExternalIdentifier","Type":"local-level","Value":"K1"}]}],"#,
+    r#""Contest":[{"@id":"c1","@type":"ElectionResults.CandidateContest","Name":"Mayor","ElectionDistrictId":"u7","VotesAllowed":1,"#,
+    r#""ExternalIdentifier":[{"@type":"ElectionResults.ExternalIdentifier","Type":"local-level","Value":"C1"}],"#,
+    r#""ContestSelection":[{"@id":"s2","@type":"ElectionResults.CandidateSelection","IsWriteIn":true},{"@id":"s1","#,
+    r#""@type":"ElectionResults.CandidateSelection","CandidateIds":["k1"]}]}],"BallotStyle":[{"@type":"ElectionResults.BallotStyle","#,
+    r#""GpUnitIds":["u7"],"ExternalIdentifier":[{"@type":"ElectionResults.ExternalIdentifier","Type":"local-level","Value":"B1"}],"#,
+    r#""OrderedContent":[{"@type":"ElectionResults.OrderedContest","ContestId":"c1"}]}]}]}"#,
+);
 
 // What the contest means: its selections stand in the order of their names, with keys in place of references.
-const CONTEST: &str =
-    r#"{"class":"ElectionResults.CandidateContest","election":["local-level","","E1"],"members":{"ContestSelection":[{"name":["ElectionResults.CandidateSelection",[],true,null,null,null],"record":{"class":"ElectionResults.CandidateSelection","members":{"IsWriteIn":true}}},{"name":["ElectionResults.CandidateSelection",[["local-level","","K1"]],false,null,null,null],"record":{"class":"ElectionResults.CandidateSelection","members":{"CandidateIds":[["local-level","","K1"]]}}}],"ElectionDistrictId":["fips","","20"],"ExternalIdentifier":[{"@type":"ElectionResults.ExternalIdentifier","Type":"local-level","Value":"C1"}],"Name":"Mayor","VotesAllowed":1}}"#;
+const CONTEST: &str = concat!(
+    r#"{"class":"ElectionResults.CandidateContest","election":["local-level","","E1"],"#,
+    r#""members":{"ContestSelection":[{"name":["ElectionResults.CandidateSelection",[],true,null,null,null],"#,
+    r#""record":{"class":"ElectionResults.CandidateSelection","members":{"IsWriteIn":true}}},"#,
+    r#"{"name":["ElectionResults.CandidateSelection",[["local-level","","K1"]],false,null,null,null],"#,
+    r#""record":{"class":"ElectionResults.CandidateSelection","members":{"CandidateIds":[["local-level","","K1"]]}}}],"#,
+    r#""ElectionDistrictId":["fips","","20"],"ExternalIdentifier":[{"@type":"ElectionResults.ExternalIdentifier","Type":"local-level","#,
+    r#""Value":"C1"}],"Name":"Mayor","VotesAllowed":1}}"#,
+);
 
 // What the style means: the order of its ballot has the names of selections.
-const STYLE: &str =
-    r#"{"class":"ElectionResults.BallotStyle","election":["local-level","","E1"],"members":{"ExternalIdentifier":[{"@type":"ElectionResults.ExternalIdentifier","Type":"local-level","Value":"B1"}],"GpUnitIds":[["fips","","20"]],"OrderedContent":[{"carried":{},"contest":["local-level","","C1"],"selections":[["ElectionResults.CandidateSelection",[["local-level","","K1"]],false,null,null,null]]}]}}"#;
+const STYLE: &str = concat!(
+    r#"{"class":"ElectionResults.BallotStyle","election":["local-level","","E1"],"#,
+    r#""members":{"ExternalIdentifier":[{"@type":"ElectionResults.ExternalIdentifier","Type":"local-level","Value":"B1"}],"#,
+    r#""GpUnitIds":[["fips","","20"]],"OrderedContent":[{"carried":{},"contest":["local-level","","C1"],"#,
+    r#""selections":[["ElectionResults.CandidateSelection",[["local-level","","K1"]],false,null,null,null]]}]}}"#,
+);
 
 // The ballot of the style: its contest, with the selection that it lists, and the unit whose voters get it.
-const BALLOT_LINES: &str =
-    r#"{"key":["local-level","","B1"],"lines":[{"depth":0,"listed":true,"selections":[["ElectionResults.CandidateSelection",[["local-level","","K1"]],false,null,null,null]],"what":["contest",["local-level","","C1"]]}],"parties":[],"units":[["fips","","20"]]}"#;
+const BALLOT_LINES: &str = concat!(
+    r#"{"key":["local-level","","B1"],"lines":[{"depth":0,"listed":true,"selections":[["ElectionResults.CandidateSelection","#,
+    r#"[["local-level","","K1"]],false,null,null,null]],"what":["contest",["local-level","","C1"]]}],"parties":[],"units":[["fips","","#,
+    r#""20"]]}"#,
+);
 
 // The heads of the ballots: one style, with one line.
 pub(crate) const HEADS: &str =
@@ -40,15 +78,26 @@ pub(crate) const HEADS: &str =
 // The line for it.
 pub(crate) const HEAD_LINE: &str = "ballot [\"local-level\",\"\",\"B1\"]: 1 lines\n";
 
-// The line for the style whose ballots differ.
-pub(crate) const DIFFERENCE_LINE: &str = "ballot [\"local-level\",\"\",\"B1\"]: differs\n";
+// The lines for the style whose ballots differ: a ballot that lists no selections has all of the contest.
+pub(crate) const DIFFERENCE_LINES: &str = concat!(
+    "ballot [\"local-level\",\"\",\"B1\"]: differs\n  changed contest [\"local-level\",\"\",\"C1\"]\n",
+    "    added selection [\"ElectionResults.CandidateSelection\",[],true,null,null,null]\n",
+);
 
 // The style whose ballots differ, where the other one lists no selections.
-pub(crate) const DIFFERS: &str = r#"[{"key":["local-level","","B1"],"left":0,"right":0}]"#;
+pub(crate) const DIFFERS: &str = concat!(
+    r#"[{"below":"  changed contest [\"local-level\",\"\",\"C1\"]\n    added selection [\"ElectionResults.CandidateSelection\","#,
+    r#"[],true,null,null,null]\n","key":["local-level","","B1"],"left":0,"right":0}]"#,
+);
 
 // The ballot beside itself.
-pub(crate) const BESIDE: &str =
-    r#"{"left":[{"depth":0,"listed":true,"selections":[["ElectionResults.CandidateSelection",[["local-level","","K1"]],false,null,null,null]],"what":["contest",["local-level","","C1"]]}],"right":[{"depth":0,"listed":true,"selections":[["ElectionResults.CandidateSelection",[["local-level","","K1"]],false,null,null,null]],"what":["contest",["local-level","","C1"]]}],"rows":[{"how":"both","left":0,"right":0,"selections":[{"how":"both","name":["ElectionResults.CandidateSelection",[["local-level","","K1"]],false,null,null,null]}]}]}"#;
+pub(crate) const BESIDE: &str = concat!(
+    r#"{"left":[{"depth":0,"listed":true,"selections":[["ElectionResults.CandidateSelection",[["local-level","","#,
+    r#""K1"]],false,null,null,null]],"what":["contest",["local-level","","C1"]]}],"right":[{"depth":0,"listed":true,"#,
+    r#""selections":[["ElectionResults.CandidateSelection",[["local-level","","K1"]],false,null,null,null]],"what":["contest","#,
+    r#"["local-level","","C1"]]}],"rows":[{"how":"both","left":0,"right":0,"selections":[{"how":"both","#,
+    r#""name":["ElectionResults.CandidateSelection",[["local-level","","K1"]],false,null,null,null]}]}]}"#,
+);
 
 fn no_header(rt: &impl Abort, alloc: Global, report: &Report) -> Result<(), Fail> {
     let mut out = Output::new(alloc);
@@ -61,8 +110,11 @@ fn no_header(rt: &impl Abort, alloc: Global, report: &Report) -> Result<(), Fail
 const ELECTION: &str = r#"["local-level","","E1"]"#;
 
 // The record of the contest, without its selections.
-const CONTEST_RECORD: &str =
-    r#"{"class":"ElectionResults.CandidateContest","election":["local-level","","E1"],"members":{"ElectionDistrictId":["fips","","20"],"ExternalIdentifier":[{"@type":"ElectionResults.ExternalIdentifier","Type":"local-level","Value":"C1"}],"Name":"Mayor","VotesAllowed":1}}"#;
+const CONTEST_RECORD: &str = concat!(
+    r#"{"class":"ElectionResults.CandidateContest","election":["local-level","","E1"],"members":{"ElectionDistrictId":["fips","","20"],"#,
+    r#""ExternalIdentifier":[{"@type":"ElectionResults.ExternalIdentifier","Type":"local-level","Value":"C1"}],"Name":"Mayor","#,
+    r#""VotesAllowed":1}}"#,
+);
 
 fn values_are(rt: &impl Abort, alloc: Global, report: &Report) -> Result<(), Fail> {
     let contest = Role::OfFamily(Family::Contest);
@@ -156,10 +208,16 @@ fn texts_stand_beside(
     Ok(())
 }
 
-fn no_ballot_differs(rt: &impl Abort, alloc: Global, report: &Report) -> Result<(), Fail> {
-    let text = ballot_differences_text(alloc, &differing_ballots(alloc, report, report)?)?;
+fn no_ballot_differs(
+    rt: &impl Abort,
+    alloc: Global,
+    left: &Report,
+    right: &Report,
+) -> Result<(), Fail> {
+    let found = differing_ballots(alloc, left, right)?;
+    let text = ballot_differences_text(alloc, left, right, &found)?;
     assert!(rt; text.as_str() == "[]");
-    let text = ballot_differences_lines(alloc, &differing_ballots(alloc, report, report)?)?;
+    let text = ballot_differences_lines(alloc, left, right, &found)?;
     assert!(rt; text.as_str() == "same ballots\n");
     Ok(())
 }
@@ -172,11 +230,31 @@ fn a_ballot_differs(
 ) -> Result<(), Fail> {
     let found = differing_ballots(alloc, left, right)?;
     assert!(rt; found.first().and_then(|style| style.left) == Some(0));
-    let text = ballot_differences_text(alloc, &found)?;
+    let text = ballot_differences_text(alloc, left, right, &found)?;
     assert!(rt; text.as_str() == DIFFERS);
-    let text = ballot_differences_lines(alloc, &found)?;
-    assert!(rt; text.as_str() == DIFFERENCE_LINE);
     Ok(())
+}
+
+fn a_difference_is_told(
+    rt: &impl Abort,
+    alloc: Global,
+    left: &Report,
+    right: &Report,
+) -> Result<(), Fail> {
+    let found = differing_ballots(alloc, left, right)?;
+    let text = ballot_differences_lines(alloc, left, right, &found)?;
+    assert!(rt; text.as_str() == DIFFERENCE_LINES);
+    Ok(())
+}
+
+#[test]
+fn same_ballots(rt: HostRuntime) -> Result<(), Fail> {
+    let alloc = rt.alloc();
+    let left_tree = Value::from_str(alloc, BALLOT)?;
+    let right_tree = Value::from_str(alloc, BALLOT)?;
+    let left = report_of(alloc, &left_tree)?;
+    let right = report_of(alloc, &right_tree)?;
+    no_ballot_differs(&rt, alloc, &left, &right)
 }
 
 #[test]
@@ -186,8 +264,8 @@ fn differences_of_ballots(rt: HostRuntime) -> Result<(), Fail> {
     let right_tree = Value::from_str(alloc, UNLISTED)?;
     let left = report_of(alloc, &left_tree)?;
     let right = report_of(alloc, &right_tree)?;
-    no_ballot_differs(&rt, alloc, &left)?;
-    a_ballot_differs(&rt, alloc, &left, &right)
+    a_ballot_differs(&rt, alloc, &left, &right)?;
+    a_difference_is_told(&rt, alloc, &left, &right)
 }
 
 #[test]

@@ -8,62 +8,56 @@ use std::alloc::{AllocError, Global};
 use std::process::Abort;
 use std::test::Fail;
 
-#[test]
-fn classes(rt: HostRuntime) {
-    assert!(rt; class_of("ElectionResults.Party") == Some(Class::Party));
-    assert!(rt; class_of("Party") == None);
+fn has_classes() -> bool {
+    class_of("ElectionResults.Party") == Some(Class::Party)
+        && class_of("Party") == None
+        && type_text(Class::Party) == "ElectionResults.Party"
+        && role_of(Class::Coalition) == Role::OfFamily(Family::Party)
+        && family_of(Class::Coalition) == Some(Family::Party)
+        && family_of(Class::Election) == None
 }
 
-#[test]
-fn texts_of_classes(rt: HostRuntime) {
-    assert!(rt; type_text(Class::Party) == "ElectionResults.Party");
-}
-
-#[test]
-fn roles(rt: HostRuntime) {
-    assert!(rt; role_of(Class::Coalition) == Role::OfFamily(Family::Party));
-}
-
-#[test]
-fn families(rt: HostRuntime) {
-    assert!(rt; family_of(Class::Coalition) == Some(Family::Party));
-    assert!(rt; family_of(Class::Election) == None);
-}
-
-#[test]
-fn classes_in_roles(rt: HostRuntime) {
+fn has_classes_in_roles() -> bool {
     let candidate = Role::OfFamily(Family::Candidate);
-    assert!(rt; class_in(candidate, "ElectionResults.Candidate") == Some(Class::Candidate));
-    assert!(rt; class_in(candidate, "ElectionResults.Party") == None);
+    class_in(candidate, "ElectionResults.Candidate") == Some(Class::Candidate)
+        && class_in(candidate, "ElectionResults.Party") == None
+}
+
+fn has_members() -> bool {
+    member_kind(Class::Candidate, "PartyId") == MemberKind::One(Family::Party)
+        && member_kind(Class::Candidate, "Nickname") == MemberKind::Carried
+        && is_envelope("Issuer")
+        && !is_envelope("Status")
+        && is_reference_form("PartyIds")
+        && !is_reference_form("PartyID")
+}
+
+fn has_required_members() -> bool {
+    required(Class::LanguageString).contains(&"Content")
+        && is_required_member(Class::Header, "Name")
+        && !is_required_member(Class::Header, "Color")
+}
+
+fn has_reasons() -> bool {
+    Reason::DuplicateId.words() == "@id used twice" && Reason::DuplicateId.missing_member() == ""
+}
+
+#[test]
+fn tables(rt: HostRuntime) {
+    assert!(rt;
+        has_classes()
+            && has_classes_in_roles()
+            && has_reasons()
+            && has_members()
+            && has_required_members()
+    );
 }
 
 #[test]
 fn values_of_families(rt: HostRuntime) -> Result<(), Fail> {
     let are_parties = PerFamily::of(|family| Ok(family == Family::Party))?;
-    assert!(rt; *are_parties.get(Family::Party));
-    assert!(rt; !*are_parties.get(Family::Person));
+    assert!(rt; *are_parties.get(Family::Party) && !*are_parties.get(Family::Person));
     Ok(())
-}
-
-#[test]
-fn members(rt: HostRuntime) {
-    assert!(rt; member_kind(Class::Candidate, "PartyId") == MemberKind::One(Family::Party));
-    assert!(rt; member_kind(Class::Candidate, "Nickname") == MemberKind::Carried);
-}
-
-#[test]
-fn names_of_members(rt: HostRuntime) {
-    assert!(rt; is_envelope("Issuer"));
-    assert!(rt; !is_envelope("Status"));
-    assert!(rt; is_reference_form("PartyIds"));
-    assert!(rt; !is_reference_form("PartyID"));
-}
-
-#[test]
-fn required_members(rt: HostRuntime) {
-    assert!(rt; required(Class::LanguageString).contains(&"Content"));
-    assert!(rt; is_required_member(Class::Header, "Name"));
-    assert!(rt; !is_required_member(Class::Header, "Color"));
 }
 
 #[test]
@@ -90,19 +84,11 @@ fn place_of_unit(alloc: Global) -> Result<Place, AllocError> {
 }
 
 // What the place has.
-fn steps(rt: &impl Abort, place: &Place) {
-    assert!(rt; place.len() == 2);
-    steps_in_turn(rt, place);
-    last_step(rt, place);
-}
-
-fn steps_in_turn(rt: &impl Abort, place: &Place) {
-    assert!(rt; place.iter().count() == 2);
-}
-
-fn last_step(rt: &impl Abort, place: &Place) {
-    assert!(rt; !place.is_empty());
-    assert!(rt; matches!(place.step(1), Some(Step::At(10))));
+fn has_steps(place: &Place) -> bool {
+    place.len() == 2
+        && place.iter().count() == 2
+        && !place.is_empty()
+        && matches!(place.step(1), Some(Step::At(10)))
 }
 
 fn pointer_of(rt: &impl Abort, alloc: Global, place: &Place) -> Result<(), Fail> {
@@ -114,7 +100,7 @@ fn pointer_of(rt: &impl Abort, alloc: Global, place: &Place) -> Result<(), Fail>
 fn places(rt: HostRuntime) -> Result<(), Fail> {
     let alloc = rt.alloc();
     let place = place_of_unit(alloc)?;
-    steps(&rt, &place);
+    assert!(rt; has_steps(&place));
     pointer_of(&rt, alloc, &place)
 }
 
@@ -127,16 +113,6 @@ fn fault_of_unit(alloc: Global) -> Result<Fault, AllocError> {
 }
 
 #[test]
-fn words_of_reasons(rt: HostRuntime) {
-    assert!(rt; Reason::DuplicateId.words() == "@id used twice");
-}
-
-#[test]
-fn missing_members(rt: HostRuntime) {
-    assert!(rt; Reason::DuplicateId.missing_member() == "");
-}
-
-#[test]
 fn fault_lines(rt: HostRuntime) -> Result<(), Fail> {
     let alloc = rt.alloc();
     let fault = fault_of_unit(alloc)?;
@@ -144,16 +120,9 @@ fn fault_lines(rt: HostRuntime) -> Result<(), Fail> {
     Ok(())
 }
 
-// What the list of one fault has.
-fn faults(rt: &impl Abort, list: &FaultList) {
-    assert!(rt; !list.is_empty());
-    assert!(rt; list.get(1).is_none());
-    count_of_faults(rt, list);
-    faults_in_turn(rt, list);
-}
-
-fn count_of_faults(rt: &impl Abort, list: &FaultList) {
-    assert!(rt; list.len() == 1);
+// Whether the list has one fault.
+fn has_one_fault(list: &FaultList) -> bool {
+    !list.is_empty() && list.get(1).is_none() && list.len() == 1
 }
 
 fn faults_in_turn(rt: &impl Abort, list: &FaultList) {
@@ -167,6 +136,7 @@ fn fault_lists(rt: HostRuntime) -> Result<(), Fail> {
     let alloc = rt.alloc();
     let fault = fault_of_unit(alloc)?;
     let list = FaultList::of(vec![in alloc; fault]?);
-    faults(&rt, &list);
+    assert!(rt; has_one_fault(&list));
+    faults_in_turn(&rt, &list);
     Ok(())
 }

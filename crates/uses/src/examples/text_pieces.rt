@@ -14,8 +14,11 @@ fn line_of_the_second_fault(rt: HostRuntime) -> Result<(), Fail> {
         enough_bytes: 1_048_576,
     };
     let answer = check_text_piece(alloc, BARE.as_bytes(), None, &piece)?;
-    assert!(rt; answer.text.as_slice() == ": missing member Status\n".as_bytes());
-    assert!(rt; answer.told.count == 1 && answer.told.all == 2);
+    assert!(rt;
+        answer.text.as_slice() == ": missing member Status\n".as_bytes()
+            && answer.told.count == 1
+            && answer.told.all == 2
+    );
     Ok(())
 }
 
@@ -41,8 +44,11 @@ fn line_of_the_first_fault_of_a_side(rt: HostRuntime) -> Result<(), Fail> {
         enough_bytes: 1_048_576,
     };
     let answer = compare_text_piece(alloc, BARE.as_bytes(), one, None, &piece)?;
-    assert!(rt; answer.text.as_slice() == "left: : missing member Election\n".as_bytes());
-    assert!(rt; answer.told.count == 1 && answer.told.all == 2);
+    assert!(rt;
+        answer.text.as_slice() == "left: : missing member Election\n".as_bytes()
+            && answer.told.count == 1
+            && answer.told.all == 2
+    );
     Ok(())
 }
 
@@ -55,7 +61,10 @@ fn line_of_the_only_difference(rt: HostRuntime) -> Result<(), Fail> {
         enough_bytes: 1_048_576,
     };
     let answer = differences_text_piece(alloc, one, other, None, &piece)?;
-    assert!(rt; answer.text.as_slice() == "election: member \"Name\"\n".as_bytes());
-    assert!(rt; answer.outcome.status() == 1 && answer.told.all == 1);
+    assert!(rt;
+        answer.text.as_slice() == "election: member \"Name\"\n".as_bytes()
+            && answer.outcome.status() == 1
+            && answer.told.all == 1
+    );
     Ok(())
 }

@@ -2,12 +2,10 @@
 use erd_check::values::entries_of;
 use erd_text::{Output, label_text, write_label, write_rising_values, write_value};
 use serde_json::Value;
+use std::alloc::AllocError;
 use std::test::Fail;
 
-#[test]
-fn tokens(rt: HostRuntime) -> Result<(), Fail> {
-    let alloc = rt.alloc();
-    let mut out = Output::new(alloc);
+fn write_tokens(out: &mut Output) -> Result<(), AllocError> {
     out.begin_object()?;
     out.key("a")?;
     out.begin_array()?;
@@ -18,6 +16,13 @@ fn tokens(rt: HostRuntime) -> Result<(), Fail> {
     out.null()?;
     out.end_array()?;
     out.end_object()?;
+    Ok(())
+}
+
+#[test]
+fn tokens(rt: HostRuntime) -> Result<(), Fail> {
+    let mut out = Output::new(rt.alloc());
+    write_tokens(&mut out)?;
     let text = out.into_text();
     assert!(rt; text.as_slice() == r#"{"a":["x",1,-1,true,null]}"#.as_bytes());
     Ok(())

@@ -6,6 +6,7 @@ import json
 from typing import Any, Iterable, List, NamedTuple, Tuple, Union
 
 from ..library import GOOD, NOT_JSON, TooLong, prepared
+from ..results import WORDS
 from ..tree import MARK, NotJson, Tree, WrittenNumber, without_mark, written
 from .step_words import GROUP_WORDS, REMEDIES, STEP_WORDS
 
@@ -122,6 +123,16 @@ class Remedy(NamedTuple):
 
     steps: List[str]
     letter: str
+
+
+    def line(self, reason: int) -> str:
+        """Returns the line that `erd prepare` writes about a reason that is left.
+
+        >>> remedy_of(11).line(11)
+        'reason 11 (repeated): steps that may fix it: repeated; otherwise ask the vendor: Write each entry of a set once. If another one was meant, write that.'
+        """
+        ways = f'steps that may fix it: {", ".join(self.steps)}; otherwise ask' if self.steps else 'no step fixes it; ask'
+        return f'reason {reason} ({WORDS[reason]}): {ways} the vendor: {self.letter}'
 
 
 def remedy_of(reason: int) -> Remedy:

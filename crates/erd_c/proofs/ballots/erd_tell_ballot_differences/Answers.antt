@@ -6,7 +6,9 @@ use Rattle.erd_c.proofs.ballots.erd_tell_ballot_differences.Goals as goal
 
 pub returns-in-Ok : goal.returns-in-Ok
 returns-in-Ok c =
-    call_of (λ it. it.0) (λ it. it.1.items) (λ π. IsBallotDifferencesData π c.args.left.now c.args.right.now) c.args.prefers c.args.prefer.now _ c.differences.result c.tell.result c.args.room.now c.tell.new.room
+    call_of (λ it. it.0) (λ it. it.1.items) (λ π. IsBallotDifferencesData π c.args.left.now c.args.right.now) c.args.prefers c.args.prefer.now _
+    c.differences.result c.tell.result c.args.room.now c.tell.new.room
     (subst (λ n. ¬ IsWrong c.args.prefers c.args.prefer.now n) c.max.ensures c.in-Ok.ensures.right)
-    (subst (λ π. IfOk c.differences.result (λ it. IsBallotDifferencesData π c.args.left.now c.args.right.now it.0 it.1.items)) c.in-Ok.ensures.given c.differences.ensures)
+    (subst (λ π. IfOk c.differences.result (λ it. IsBallotDifferencesData π c.args.left.now c.args.right.now it.0 it.1.items))
+    c.in-Ok.ensures.given c.differences.ensures)
     c.tell.ensures.answered c.tell.ensures.faulty

@@ -5,4 +5,5 @@ use Rattle.erd_program.specs.Messages.{name_in_line, unopened_words}
 use Rattle.erd_program.proofs.messages.unopened_lines.Given as goal
 
 abbrev pub invariant-loop-character : goal.invariant-loop-character
-invariant-loop-character l = IsUtf8 (chars_rest l.character-iterator) × (string_bytes l.lines ++ name_in_line (chars_rest l.character-iterator) ≡ unopened_words l.name)
+invariant-loop-character l = IsUtf8 (chars_rest l.character-iterator)
+    × (string_bytes l.lines ++ name_in_line (chars_rest l.character-iterator) ≡ unopened_words l.name)

@@ -6,12 +6,24 @@ use std::io;
 use std::io::{ErrorKind, Read, Write};
 
 /// A report in canonical form.
-pub const REPORT: &str =
-    r#"{"@type":"ElectionResults.ElectionReport","Election":[{"@type":"ElectionResults.Election","ElectionScopeId":"gp1","EndDate":"2026-11-03","Name":"Test","StartDate":"2026-11-03","Type":"general"}],"Format":"summary-contest","GeneratedDate":"2000-01-01T00:00:00Z","GpUnit":[{"@id":"gp1","@type":"ElectionResults.ReportingUnit","ExternalIdentifier":[{"@type":"ElectionResults.ExternalIdentifier","Type":"local-level","Value":"U1"}],"Type":"county"}],"Issuer":"canonical","IssuerAbbreviation":"canonical","SequenceEnd":1,"SequenceStart":1,"Status":"pre-election","VendorApplicationId":"canonical"}"#;
+pub const REPORT: &str = concat!(
+    r#"{"@type":"ElectionResults.ElectionReport","Election":[{"@type":"ElectionResults.Election","ElectionScopeId":"gp1","#,
+    r#""EndDate":"2026-11-03","Name":"Test","StartDate":"2026-11-03","Type":"general"}],"Format":"summary-contest","#,
+    r#""GeneratedDate":"2000-01-01T00:00:00Z","GpUnit":[{"@id":"gp1","@type":"ElectionResults.ReportingUnit","#,
+    r#""ExternalIdentifier":[{"@type":"ElectionResults.ExternalIdentifier","Type":"local-level","Value":"U1"}],"Type":"county"}],"#,
+    r#""Issuer":"canonical","IssuerAbbreviation":"canonical","SequenceEnd":1,"SequenceStart":1,"Status":"pre-election","#,
+    r#""VendorApplicationId":"canonical"}"#,
+);
 
 /// The same report with another type of the unit.
-pub const OTHER: &str =
-    r#"{"@type":"ElectionResults.ElectionReport","Election":[{"@type":"ElectionResults.Election","ElectionScopeId":"gp1","EndDate":"2026-11-03","Name":"Test","StartDate":"2026-11-03","Type":"general"}],"Format":"summary-contest","GeneratedDate":"2000-01-01T00:00:00Z","GpUnit":[{"@id":"gp1","@type":"ElectionResults.ReportingUnit","ExternalIdentifier":[{"@type":"ElectionResults.ExternalIdentifier","Type":"local-level","Value":"U1"}],"Type":"city"}],"Issuer":"canonical","IssuerAbbreviation":"canonical","SequenceEnd":1,"SequenceStart":1,"Status":"pre-election","VendorApplicationId":"canonical"}"#;
+pub const OTHER: &str = concat!(
+    r#"{"@type":"ElectionResults.ElectionReport","Election":[{"@type":"ElectionResults.Election","ElectionScopeId":"gp1","#,
+    r#""EndDate":"2026-11-03","Name":"Test","StartDate":"2026-11-03","Type":"general"}],"Format":"summary-contest","#,
+    r#""GeneratedDate":"2000-01-01T00:00:00Z","GpUnit":[{"@id":"gp1","@type":"ElectionResults.ReportingUnit","#,
+    r#""ExternalIdentifier":[{"@type":"ElectionResults.ExternalIdentifier","Type":"local-level","Value":"U1"}],"Type":"city"}],"#,
+    r#""Issuer":"canonical","IssuerAbbreviation":"canonical","SequenceEnd":1,"SequenceStart":1,"Status":"pre-election","#,
+    r#""VendorApplicationId":"canonical"}"#,
+);
 
 // The files of the world, each with its name.
 const FILES: [(&str, &str); 4] = [

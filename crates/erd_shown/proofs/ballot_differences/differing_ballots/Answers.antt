@@ -1,5 +1,5 @@
-use Rattle.erd_shown.proofs.Common.{◌≡◌, ℕ, List, Option, Key, map, filter_map, ap, ap₂, ◌∙◌, subst, view, family, rising_keys, IfOk-weaker}
-use Rattle.erd_shown.specs.BallotDifferences.{AreStyleRows, StyleFound, is_same_ballot, told_of_row}
+use Rattle.erd_shown.proofs.Common.{ℕ, List, Option, Key, map, filter_map, ap, ap₂, ◌∙◌, subst, view, family, rising_keys, IfOk-weaker}
+use Rattle.erd_shown.specs.BallotDifferences.{AreStyleRows, is_same_ballot, told_of_row}
 use Rattle.erd_shown.specs.code.LineLists.{of_place}
 use Rattle.erd_shown.proofs.ballot_differences.differing_ballots.Goals as goal
 

@@ -1,4 +1,5 @@
-use Rattle.erd_shown.proofs.Common.{◌≡◌, ℕ, List, Option, Some, None, Bor, Key, Ordering, map, option_copied, option_cmp, key_cmp, eq_by_cmp, refl, sym, ap, ap₂, ◌∙◌, subst, IfOk-weaker}
+use Rattle.erd_shown.proofs.Common.{◌≡◌, ℕ, List, Option, Some, None, Bor, Key, Ordering, map, option_copied, option_cmp, key_cmp, eq_by_cmp, refl, sym, ap}
+use Rattle.erd_shown.proofs.Common.{ap₂, ◌∙◌, subst, IfOk-weaker}
 use Rattle.std.proofs.lemmas.Simd.{map-map}
 use Rattle.erd_shown.proofs.PartnerLists.{partners_for}
 use Rattle.erd_shown.specs.BallotDifferences.{is_one_key, style_keys}

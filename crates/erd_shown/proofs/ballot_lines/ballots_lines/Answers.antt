@@ -8,5 +8,6 @@ pub returns : goal.returns
 returns c =
     let line = head_line (view c.args.report.now.tree) in
     IfOk-weaker c.lines_at.result _ _
-    (λ text is. is ∙ ap lines_text (sym (map-map line of_place c.deref.result.now) ∙ ap (map line) (ap (map of_place) c.deref.ensures.value ∙ c.in_ok-places.ensures)))
+    (λ text is. is
+    ∙ ap lines_text (sym (map-map line of_place c.deref.result.now) ∙ ap (map line) (ap (map of_place) c.deref.ensures.value ∙ c.in_ok-places.ensures)))
     c.lines_at.ensures

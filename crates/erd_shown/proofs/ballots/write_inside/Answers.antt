@@ -15,7 +15,8 @@ returns c =
     let shown = λ (n : NameParts). shown_name (Some n) in
     on_ok_weaker c.write_what.result
     (λ last.
-    member_then c.args.out.now c.key.new.self c.write_names.new.out c.write_what.new.out (codes "selections") (array_of (map shown (names_on π t d))) (what_members (thing_at π t d)) c.in_ok-key.ensures
+    member_then c.args.out.now c.key.new.self c.write_names.new.out c.write_what.new.out (codes "selections") (array_of (map shown (names_on π t d)))
+    (what_members (thing_at π t d)) c.in_ok-key.ensures
     (c.in_ok-write_names.ensures
     ∙ ap (λ (ds : List Data). c.key.new.self ++ value_tokens (array_of ds))
     (sym (map-map shown lent c.deref.result.now) ∙ ap (map shown) (ap (map lent) c.deref.ensures.value ∙ c.in_ok-names_on.ensures))) last)

@@ -13,7 +13,8 @@ returns c =
     let d = view c.args.style.now in
     on_ok_weaker c.write_voters.result
     (λ last.
-    two_then c.args.out.now c.begin_object.new.self c.key.new.self c.write_key_or_null.new.out c.key-2.new.self c.write_lines_of.new.out c.write_voters.new.out (codes "key") (codes "lines")
+    two_then c.args.out.now c.begin_object.new.self c.key.new.self c.write_key_or_null.new.out c.key-2.new.self c.write_lines_of.new.out c.write_voters.new.out
+    (codes "key") (codes "lines")
     (shown_key_or_null (option_copied c.args.key)) (lines_data π t d) (voters_members π t d)
     c.in_ok-begin_object.ensures c.in_ok-key.ensures c.in_ok-write_key_or_null.ensures c.in_ok-key-2.ensures c.in_ok-write_lines_of.ensures last)
     c.write_voters.ensures

@@ -22,4 +22,5 @@ returns c =
     let lefts = things_in c.args.left.now.prefer (view c.args.left.now.tree) c.args.ones.now in
     let rights = things_in c.args.right.now.prefer (view c.args.right.now.tree) c.args.others.now in
     subst (λ (xs : List (Option ℕ)). IfOk c.rows_between.result (λ rows. AreRows (partners same lefts rights) xs rows.items)) there
-    (subst (λ (xs : List (Option ℕ)). IfOk c.rows_between.result (λ rows. AreRows xs (partners (eq_by_cmp lent_thing_cmp) others ones) rows.items)) here c.rows_between.ensures)
+    (subst (λ (xs : List (Option ℕ)). IfOk c.rows_between.result (λ rows. AreRows xs (partners (eq_by_cmp lent_thing_cmp) others ones) rows.items)) here
+    c.rows_between.ensures)

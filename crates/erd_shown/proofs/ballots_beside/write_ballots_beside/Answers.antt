@@ -38,7 +38,8 @@ returns c =
     let right = things_there ρ u e c.deref-2.result.now (ap (map of_line) c.deref-2.ensures.value ∙ c.in_ok-others.ensures) in
     let nested = c.deref-8.result.now in
     let firsts : map (λ (r : Row × Beside). r.0) (map of_row nested) ≡ c.in_ok-rows.rows.items =
-    map-map (λ (r : Row × Beside). r.0) of_row nested ∙ ap (map (λ (r : Row × SelectionRows). r.0)) c.deref-8.ensures.value ∙ c.in_ok-nested.ensures.rows ∙ c.deref-5.ensures.value in
+    map-map (λ (r : Row × Beside). r.0) of_row nested ∙ ap (map (λ (r : Row × SelectionRows). r.0)) c.deref-8.ensures.value ∙ c.in_ok-nested.ensures.rows
+    ∙ c.deref-5.ensures.value in
     let inside = λ (ls rs : List (ℕ × Data)). IsInside (AreSelectionsAt π t ls ρ u rs) in
     on_ok_weaker c.write_rows_member.result
     (λ last. (
@@ -46,21 +47,28 @@ returns c =
       record {
         rows = map of_row nested;
         are_rows =
-            subst (λ (xs : List (Option ℕ)). AreRows (partners same (things_of π t d) (things_of ρ u e)) xs (map (λ (r : Row × Beside). r.0) (map of_row nested))) (ap₂ (partners same) right left)
-            (subst (λ (xs : List (Option ℕ)). AreRows xs (partners same (things_in ρ u c.deref-2.result.now) (things_in π t c.deref.result.now)) (map (λ (r : Row × Beside). r.0) (map of_row nested))) (ap₂ (partners same) left right)
-            (subst (λ (rows : List Row). AreRows (partners same (things_in π t c.deref.result.now) (things_in ρ u c.deref-2.result.now)) (partners same (things_in ρ u c.deref-2.result.now) (things_in π t c.deref.result.now)) rows)
+            subst (λ (xs : List (Option ℕ)). AreRows (partners same (things_of π t d) (things_of ρ u e)) xs
+            (map (λ (r : Row × Beside). r.0) (map of_row nested))) (ap₂ (partners same) right left)
+            (subst (λ (xs : List (Option ℕ)). AreRows xs (partners same (things_in ρ u c.deref-2.result.now) (things_in π t c.deref.result.now))
+            (map (λ (r : Row × Beside). r.0) (map of_row nested))) (ap₂ (partners same) left right)
+            (subst (λ (rows : List Row). AreRows (partners same (things_in π t c.deref.result.now) (things_in ρ u c.deref-2.result.now))
+            (partners same (things_in ρ u c.deref-2.result.now) (things_in π t c.deref.result.now)) rows)
             (sym firsts) c.in_ok-rows.ensures));
         inside =
             subst (λ (ns : List (Row × SelectionRows)). AllByRecursion (inside (lines_of d) (lines_of e)) (map of_row ns)) (sym c.deref-8.ensures.value)
-            (subst (λ (rs : List (ℕ × Data)). AllByRecursion (inside (lines_of d) rs) (map of_row c.in_ok-nested.nested.items)) (ap (map of_line) c.deref-4.ensures.value ∙ c.in_ok-others.ensures)
-            (subst (λ (ls : List (ℕ × Data)). AllByRecursion (inside ls (map of_line c.deref-4.result.now)) (map of_row c.in_ok-nested.nested.items)) (ap (map of_line) c.deref-3.ensures.value ∙ c.in_ok-ones.ensures)
+            (subst (λ (rs : List (ℕ × Data)). AllByRecursion (inside (lines_of d) rs) (map of_row c.in_ok-nested.nested.items))
+            (ap (map of_line) c.deref-4.ensures.value ∙ c.in_ok-others.ensures)
+            (subst (λ (ls : List (ℕ × Data)). AllByRecursion (inside ls (map of_line c.deref-4.result.now)) (map of_row c.in_ok-nested.nested.items))
+            (ap (map of_line) c.deref-3.ensures.value ∙ c.in_ok-ones.ensures)
             c.in_ok-nested.ensures.inside));
         tells = refl;
       },
-      two_then c.args.out.now c.begin_object.new.self c.key.new.self c.write_lines.new.out c.key-2.new.self c.write_lines-2.new.out c.write_rows_member.new.out (codes "left") (codes "right")
+      two_then c.args.out.now c.begin_object.new.self c.key.new.self c.write_lines.new.out c.key-2.new.self c.write_lines-2.new.out c.write_rows_member.new.out
+          (codes "left") (codes "right")
           (written_lines π t c.deref-6.result.now) (written_lines ρ u c.deref-7.result.now) (rows_members (map of_row nested))
           c.in_ok-begin_object.ensures c.in_ok-key.ensures c.in_ok-write_lines.ensures c.in_ok-key-2.ensures c.in_ok-write_lines-2.ensures last
-          ∙ ap₂ (λ (a b : Data). c.args.out.now ++ value_tokens (beside_data a b (map of_row nested))) (lines_there π t d c.deref-6.result.now (ap (map of_line) c.deref-6.ensures.value ∙ c.in_ok-ones.ensures))
+          ∙ ap₂ (λ (a b : Data). c.args.out.now ++ value_tokens (beside_data a b (map of_row nested)))
+          (lines_there π t d c.deref-6.result.now (ap (map of_line) c.deref-6.ensures.value ∙ c.in_ok-ones.ensures))
           (lines_there ρ u e c.deref-7.result.now (ap (map of_line) c.deref-7.ensures.value ∙ c.in_ok-others.ensures)),
     ))
     c.write_rows_member.ensures

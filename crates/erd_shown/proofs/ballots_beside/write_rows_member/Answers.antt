@@ -11,6 +11,7 @@ pub returns : goal.returns
 returns c =
     on_ok_weaker c.end_object.result
     (λ last.
-    member_then c.args.out.now c.key.new.self c.write_rows.new.out c.end_object.new.self (codes "rows") (array_of (map row_data (map of_row c.args.rows.now))) no_members c.in_ok-key.ensures
+    member_then c.args.out.now c.key.new.self c.write_rows.new.out c.end_object.new.self (codes "rows") (array_of (map row_data (map of_row c.args.rows.now)))
+    no_members c.in_ok-key.ensures
     (c.in_ok-write_rows.ensures ∙ ap (λ (ds : List Data). c.key.new.self ++ value_tokens (array_of ds)) (sym (map-map row_data of_row c.args.rows.now))) last)
     c.end_object.ensures

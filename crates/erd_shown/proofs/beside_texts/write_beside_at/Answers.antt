@@ -14,5 +14,6 @@ returns c =
     on_ok_weaker c.write_beside_if.result
     (λ wrote.
     subst (λ (p : Option Data). WritesBesideIf π t (style_in t c.args.one) ρ u p before after) c.object-other.ensures
-    (subst (λ (o : Option Data). WritesBesideIf π t o ρ u (option_map (λ (v : Bor Value). view v.now) c.object-other.result) before after) c.object-one.ensures wrote))
+    (subst (λ (o : Option Data). WritesBesideIf π t o ρ u (option_map (λ (v : Bor Value). view v.now) c.object-other.result) before after)
+    c.object-one.ensures wrote))
     c.write_beside_if.ensures

@@ -1,4 +1,5 @@
-use Rattle.erd_shown.proofs.Common.{◌≡◌, ◌++◌, List, Option, Some, None, refl, option_map, Bor, Data, null, Preference, Token, Value, view, on_ok_weaker, value_tokens}
+use Rattle.erd_shown.proofs.Common.{◌≡◌, ◌++◌, List, Option, Some, None, refl, option_map, Bor, Data, null, Preference, Token, Value, view, on_ok_weaker}
+use Rattle.erd_shown.proofs.Common.{value_tokens}
 use Rattle.erd_shown.specs.code.BesideWritten.{WritesBesideIf}
 use Rattle.erd_shown.proofs.beside_texts.write_beside_if.Goals as goal
 
@@ -15,11 +16,13 @@ module _ (π : Preference) (t : Data) (ρ : Preference) (u : Data) (before after
 pub returns-in-None-other : goal.returns-in-None-other
 returns-in-None-other c =
     on_ok_weaker c.null.result
-    (λ wrote. none_right c.args.left.now.prefer (view c.args.left.now.tree) c.args.right.now.prefer (view c.args.right.now.tree) c.args.out.now c.null.new.self wrote c.args.one c.args.other c.in-None-other.is)
+    (λ wrote. none_right c.args.left.now.prefer (view c.args.left.now.tree) c.args.right.now.prefer (view c.args.right.now.tree) c.args.out.now c.null.new.self
+    wrote c.args.one c.args.other c.in-None-other.is)
     c.null.ensures
 
 pub returns-in-None : goal.returns-in-None
 returns-in-None c =
     on_ok_weaker c.null-in-None.result
-    (λ wrote. none_left c.args.left.now.prefer (view c.args.left.now.tree) c.args.right.now.prefer (view c.args.right.now.tree) c.args.out.now c.null-in-None.new.self wrote c.args.one c.args.other c.in-None.is)
+    (λ wrote. none_left c.args.left.now.prefer (view c.args.left.now.tree) c.args.right.now.prefer (view c.args.right.now.tree) c.args.out.now
+    c.null-in-None.new.self wrote c.args.one c.args.other c.in-None.is)
     c.null-in-None.ensures

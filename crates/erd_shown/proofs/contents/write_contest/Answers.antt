@@ -13,9 +13,12 @@ returns c =
     let d = view c.args.value.now in
     on_ok_weaker c.end_object.result
     (λ last whole.
-    contest_tokens c.args.out.now c.begin_object.new.self c.key.new.self c.write_carried.new.out c.key-2.new.self c.write_key_named.new.out c.key-3.new.self c.write_selections.new.out c.end_object.new.self
-    (carried_data d) (shown_key_or_null (key_named π t family.Contest (text_at (codes "ContestId") d))) (array_of (map (shown_name_named π t) (entries_at (codes "OrderedContestSelectionIds") d)))
+    contest_tokens c.args.out.now c.begin_object.new.self c.key.new.self c.write_carried.new.out c.key-2.new.self c.write_key_named.new.out c.key-3.new.self
+    c.write_selections.new.out c.end_object.new.self
+    (carried_data d) (shown_key_or_null (key_named π t family.Contest (text_at (codes "ContestId") d)))
+    (array_of (map (shown_name_named π t) (entries_at (codes "OrderedContestSelectionIds") d)))
     c.in_ok-begin_object.ensures c.in_ok-key.ensures (c.in_ok-write_carried.ensures whole) c.in_ok-key-2.ensures
-    (c.in_ok-write_key_named.ensures ∙ ap (λ (id : List ℕ). c.key-2.new.self ++ value_tokens (shown_key_or_null (key_named π t family.Contest id))) c.text_at.ensures)
+    (c.in_ok-write_key_named.ensures ∙ ap (λ (id : List ℕ). c.key-2.new.self ++ value_tokens (shown_key_or_null (key_named π t family.Contest id)))
+    c.text_at.ensures)
     c.in_ok-key-3.ensures c.in_ok-write_selections.ensures last)
     c.end_object.ensures

@@ -1,4 +1,5 @@
-use Rattle.erd_shown.proofs.Common.{◌≡◌, ℕ, [], map, slice_get, sym, ap, ◌∙◌, subst, option_map, option_map-Some, codes, view, entries_at, family, HasFittingNumbers, IsTree, IsBounded, IsAccepted, IfOk-weaker, objects}
+use Rattle.erd_shown.proofs.Common.{◌≡◌, ℕ, [], map, slice_get, sym, ap, ◌∙◌, subst, option_map, option_map-Some, codes, view, entries_at, family}
+use Rattle.erd_shown.proofs.Common.{HasFittingNumbers, IsTree, IsBounded, IsAccepted, IfOk-weaker, objects}
 use Rattle.std.specs.Option.{option_map_or}
 use Rattle.erd_meaning.specs.Lookups.{selections_before}
 use Rattle.erd_shown.specs.ListedNames.{sorted_names}
@@ -15,9 +16,11 @@ returns-in-Some c =
     let o = option_map-Some (λ o. o.value) (slice_get (objects family.Contest t) i) (view c.in-Some.contest.now) (sym c.in-Some.ensures) in
     let entries = c.entries_at.ensures ∙ ap (entries_at (codes "ContestSelection")) (sym o.2) in
     let named =
-    named_from_start π t (subst (IsAccepted π) same c.tree-tree.ensures.accepted) (subst IsTree same c.tree-tree.ensures.is_tree) (subst HasFittingNumbers same c.tree-tree.ensures.fits) (subst IsBounded same c.tree-tree.ensures.bounded) i o.0 o.1 in
+    named_from_start π t (subst (IsAccepted π) same c.tree-tree.ensures.accepted) (subst IsTree same c.tree-tree.ensures.is_tree)
+    (subst HasFittingNumbers same c.tree-tree.ensures.fits) (subst IsBounded same c.tree-tree.ensures.bounded) i o.0 o.1 in
     let there : AreNamedFrom π t c.first_selection-start.result (map view c.entries_at.result.now) =
-    subst (λ (s : ℕ). AreNamedFrom π t s (map view c.entries_at.result.now)) (sym c.first_selection-start.ensures) (subst (AreNamedFrom π t (selections_before t i)) (sym entries) named) in
+    subst (λ (s : ℕ). AreNamedFrom π t s (map view c.entries_at.result.now)) (sym c.first_selection-start.ensures)
+    (subst (AreNamedFrom π t (selections_before t i)) (sym entries) named) in
     IfOk-weaker c.sorted_names.result _ _
     (λ names are.
     are there

@@ -8,5 +8,7 @@ pub returns : goal.returns
 returns c =
     let old = c.in_ok-lent_names.field-0.items in
     let sorted = c.deref.result.now in
-    let rising : sorted ≡ rising_list (by_first name_cmp) old = c.deref.ensures.value ∙ rising_from_stable name_cmp name_cmp_total old c.in_ok-pairs.pairs.items c.in_ok-pairs.ensures in
-    IfOk-weaker c.first_names.result _ _ (λ names firsts. firsts ∙ firsts_rise old sorted (map lent c.args.names.now) rising c.in_ok-lent_names.ensures) c.first_names.ensures
+    let rising : sorted ≡ rising_list (by_first name_cmp) old =
+    c.deref.ensures.value ∙ rising_from_stable name_cmp name_cmp_total old c.in_ok-pairs.pairs.items c.in_ok-pairs.ensures in
+    IfOk-weaker c.first_names.result _ _ (λ names firsts. firsts ∙ firsts_rise old sorted (map lent c.args.names.now) rising c.in_ok-lent_names.ensures)
+    c.first_names.ensures

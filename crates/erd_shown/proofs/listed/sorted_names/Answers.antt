@@ -10,5 +10,7 @@ returns c =
     let ds = map view c.args.selections.now in
     let old = c.in_ok-named_selections.field-0.items in
     let sorted = c.deref.result.now in
-    let rising : sorted ≡ rising_list (by_first name_cmp) old = c.deref.ensures.value ∙ rising_from_stable name_cmp name_cmp_total old c.in_ok-pairs.pairs.items c.in_ok-pairs.ensures in
-    IfOk-weaker c.first_names.result _ _ (λ names firsts named. firsts ∙ names_rise π t ds old sorted (c.in_ok-named_selections.ensures named) rising) c.first_names.ensures
+    let rising : sorted ≡ rising_list (by_first name_cmp) old =
+    c.deref.ensures.value ∙ rising_from_stable name_cmp name_cmp_total old c.in_ok-pairs.pairs.items c.in_ok-pairs.ensures in
+    IfOk-weaker c.first_names.result _ _ (λ names firsts named. firsts ∙ names_rise π t ds old sorted (c.in_ok-named_selections.ensures named) rising)
+    c.first_names.ensures

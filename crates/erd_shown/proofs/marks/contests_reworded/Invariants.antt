@@ -5,4 +5,6 @@ use Rattle.erd_shown.proofs.marks.contests_reworded.Given as goal
 
 abbrev pub invariant-loop-position : goal.invariant-loop-position
 invariant-loop-position l =
-    l.found.items ++ drop l.position (marks_of (is_contest_reworded l.left.prefer (view l.left.tree) l.right.prefer (view l.right.tree)) family.Contest (view l.left.tree)) ≡ marks_of (is_contest_reworded l.left.prefer (view l.left.tree) l.right.prefer (view l.right.tree)) family.Contest (view l.left.tree)
+    l.found.items ++ drop l.position (marks_of (is_contest_reworded l.left.prefer (view l.left.tree) l.right.prefer (view l.right.tree)) family.Contest
+    (view l.left.tree)) ≡ marks_of (is_contest_reworded l.left.prefer (view l.left.tree) l.right.prefer (view l.right.tree))
+    family.Contest (view l.left.tree)

@@ -6,4 +6,5 @@ use Rattle.erd_shown.proofs.named.any_named.Given as goal
 abbrev pub invariant-loop-reference : goal.invariant-loop-reference
 invariant-loop-reference l =
     (P : Data → Bool) → l.marks ≡ marks_of P l.family (view l.report.tree)
-    → true_of_any_named P (view l.report.tree) l.family (map view l.references) ≡ true_of_any_named P (view l.report.tree) l.family (map view (drop l.reference-index l.references))
+    → true_of_any_named P (view l.report.tree) l.family (map view l.references) ≡ true_of_any_named P (view l.report.tree) l.family
+    (map view (drop l.reference-index l.references))

@@ -1,4 +1,4 @@
-use Rattle.erd_shown.proofs.Common.{false, Data, Bool, option_map_or, sym, ap, ◌∙◌, view}
+use Rattle.erd_shown.proofs.Common.{false, option_map_or, ap, view}
 use Rattle.erd_shown.proofs.MarkLists.{named_there}
 use Rattle.erd_shown.proofs.named.is_named.Goals as goal
 

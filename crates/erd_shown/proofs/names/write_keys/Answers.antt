@@ -10,8 +10,10 @@ loop-index-preserved c =
     let i = c.loop-index.index in
     let low : i < length ks = subst (λ n. i < n) c.key_count-index-end.ensures c.loop-index-test.true in
     elim c.match-key_at.branch [
-      | in-Some+in_ok-write_key w ↦ subst (λ x. x ++ items_tokens (items_of (map shown_key (drop (i + 1) ks))) ≡ c.begin_array.new.self ++ items_tokens (items_of (map shown_key ks))) (sym w.out-is)
-          (key_next ks i w.in-Some.key.now c.loop-index.out w.write_key.new.out _ (sym c.key_at.ensures ∙ ap option_copied w.in-Some.is) c.loop-index.invariant w.in_ok-write_key.ensures)
+      | in-Some+in_ok-write_key w ↦ subst (λ x. x ++ items_tokens (items_of (map shown_key (drop (i + 1) ks))) ≡ c.begin_array.new.self
+          ++ items_tokens (items_of (map shown_key ks))) (sym w.out-is)
+          (key_next ks i w.in-Some.key.now c.loop-index.out w.write_key.new.out _ (sym c.key_at.ensures ∙ ap option_copied w.in-Some.is) c.loop-index.invariant
+          w.in_ok-write_key.ensures)
       | in_default w ↦ let some = at_low ks i low in
           let clash : None ≡ Some some.0 = sym (ap option_copied w.in_default.is) ∙ (c.key_at.ensures ∙ some.1) in
           absurd (cc clash)

@@ -13,7 +13,8 @@ returns-then-holds_selections c =
     let class = c.args.object.now.class in
     let kinds = kind_there (kind_of_member class name) (sym c.holds_selections.ensures ∙ c.if-holds_selections.true) in
     on_ok_weaker c.write_selections_member.result
-    (λ written named whole. written (named kinds) whole ∙ ap (λ o. c.args.out.now ++ member_told name o) (sym (ap (λ k. shown_in π t (is_in_envelope class name) k d) kinds)))
+    (λ written named whole. written (named kinds) whole ∙ ap (λ o. c.args.out.now ++ member_told name o)
+    (sym (ap (λ k. shown_in π t (is_in_envelope class name) k d) kinds)))
     c.write_selections_member.ensures
 
 pub returns-else-holds_selections : goal.returns-else-holds_selections
@@ -26,5 +27,6 @@ returns-else-holds_selections c =
     on_ok_weaker c.write_plain_member.result
     (λ written named whole.
     written whole
-    ∙ ap (λ o. c.args.out.now ++ member_told name o) (sym (other_kind π t (is_in_envelope class name) (kind_of_member class name) d (sym c.holds_selections.ensures ∙ c.if-holds_selections.false))))
+    ∙ ap (λ o. c.args.out.now ++ member_told name o)
+    (sym (other_kind π t (is_in_envelope class name) (kind_of_member class name) d (sym c.holds_selections.ensures ∙ c.if-holds_selections.false))))
     c.write_plain_member.ensures

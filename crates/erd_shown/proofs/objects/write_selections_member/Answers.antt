@@ -1,6 +1,7 @@
 use Rattle.erd_shown.proofs.Common.{[], ◌∷◌, ◌++◌, cond, None, Some, sym, ap, ◌∙◌, subst, append_assoc, on_ok_weaker, view, entries_of, value_tokens}
 use Rattle.json.specs.Token.{key}
 use Rattle.erd_text.proofs.WholeValues.{whole_list}
+use Rattle.erd_shown.proofs.EmptyArrays.{unless_by_test}
 use Rattle.erd_shown.specs.Shown.{shown_selections}
 use Rattle.erd_shown.specs.code.Selections.{AreNamedFrom}
 use Rattle.erd_shown.specs.code.Writing.{member_told}
@@ -21,5 +22,6 @@ returns-in_ok-key c =
     ∙ (ap (λ ds. c.key.new.self ++ value_tokens (shown_selections π t ds)) c.entries_of.ensures
     ∙ (ap (λ ts. ts ++ value_tokens all) c.in_ok-key.ensures
     ∙ (append_assoc was (key name ∷ []) (value_tokens all)
-    ∙ ap (λ b. was ++ member_told name (cond b None (Some all))) (sym (sym c.is_empty_array.ensures ∙ c.if-is_empty_array.false))))))
+    ∙ ap (λ o. was ++ member_told name o)
+    (ap (λ b. cond b None (Some all)) (sym (sym c.is_empty_array.ensures ∙ c.if-is_empty_array.false)) ∙ sym (unless_by_test all d))))))
     c.write_selections.ensures

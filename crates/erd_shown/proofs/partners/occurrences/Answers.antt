@@ -9,7 +9,8 @@ loop-thing-preserved g c =
     let things = c.args.things.now in
     let i = c.loop-thing.thing-index in
     let x = c.thing-item.result in
-    counted_one (eq_by_cmp g.K.Ord.cmp) (eq_by_cmp_equiv g.met.K.Ord.total) things i x c.loop-thing.times.entries c.insert.new.self.entries c.unwrap_or-before.result c.in_ok-next.next c.loop-thing.found.items c.push.new.self.items
+    counted_one (eq_by_cmp g.K.Ord.cmp) (eq_by_cmp_equiv g.met.K.Ord.total) things i x c.loop-thing.times.entries c.insert.new.self.entries
+    c.unwrap_or-before.result c.in_ok-next.next c.loop-thing.found.items c.push.new.self.items
     (drop_more things i x c.loop-thing-test.true ∙ ap (λ w. w ∷ drop (i + 1) things) (sym c.thing-item.is))
     (c.unwrap_or-before.ensures ∙ ap (λ o. unwrap_or o 0) (c.copied.ensures ∙ c.get.ensures.value))
     c.in_ok-next.ensures

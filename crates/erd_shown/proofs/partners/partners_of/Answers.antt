@@ -11,5 +11,6 @@ returns g c =
     let same = eq_by_cmp g.K.Ord.cmp in
     subst (λ (xs : List (Option ℕ)). IfOk c.places_in.result (λ found. found.items ≡ xs))
     (ap (map (λ p. lookup (eq_by_cmp (occurrence_cmp g.K.Ord.cmp) p) c.in_ok-places.places.entries)) (c.deref-2.ensures.value ∙ c.in_ok-occurrences-2.ensures)
-    ∙ ap (λ f. map f (occurrences same c.args.things.now)) (fun_ext (λ p. c.in_ok-places.ensures p ∙ ap (λ os. place_from same 0 os p) (c.deref.ensures.value ∙ c.in_ok-occurrences.ensures))))
+    ∙ ap (λ f. map f (occurrences same c.args.things.now))
+    (fun_ext (λ p. c.in_ok-places.ensures p ∙ ap (λ os. place_from same 0 os p) (c.deref.ensures.value ∙ c.in_ok-occurrences.ensures))))
     c.places_in.ensures

@@ -17,5 +17,6 @@ returns c =
     let sorted : new ≡ rising_list (by_first key_cmp) old = rising_from_stable key_cmp key_cmp_total old new c.in_ok-keys.ensures in
     subst (λ (ds : List Data). OnOk c.write_keys.result (c.write_keys.new.out ≡ c.args.out.now ++ value_tokens (array_of ds)))
     (sym (map-map shown_key first c.deref.result.now)
-    ∙ ap (map shown_key) (ap (map first) (c.deref.ensures.value ∙ sorted) ∙ rising_list_map first key_cmp old ∙ ap (rising_list key_cmp) c.in_ok-keys_of.ensures))
+    ∙ ap (map shown_key) (ap (map first) (c.deref.ensures.value ∙ sorted) ∙ rising_list_map first key_cmp old
+    ∙ ap (rising_list key_cmp) c.in_ok-keys_of.ensures))
     c.write_keys.ensures

@@ -1,6 +1,6 @@
 use Rattle.erd_shown.proofs.Common.{◌≡◌, false, Some, None, Option, Data, Key, option_map, option_map_or, ap, ap₂, ◌∙◌, same_Some, view, IfOk-weaker}
 use Rattle.erd_shown.specs.Reworded.{has_other_words, with_key}
-use Rattle.erd_shown.proofs.KeysHeld.{key_there}
+use Rattle.erd_shown.proofs.KeysFound.{key_in_place}
 use Rattle.erd_shown.proofs.reworded.is_reworded.Goals as goal
 
 pub returns-in-Some : goal.returns-in-Some
@@ -15,7 +15,7 @@ returns-in-Some c =
     is
     ∙ ap₂ (λ (d : Data) (k : Option Key). option_map_or (λ k. option_map_or (has_other_words π t ρ u f d) (with_key ρ u f k) false) k false)
     (same_Some (view c.in-Some.object.now) o.value (c.in-Some.ensures.there ∙ ap (option_map (λ o. o.value)) there))
-    (c.key_at-key.ensures ∙ key_there π t f c.requires.keyed o c.args.position there))
+    (c.key_at-key.ensures ∙ key_in_place π t f c.requires.keyed o c.args.position there))
     c.is_object_reworded.ensures
 
 pub returns-in-None : goal.returns-in-None

@@ -1,4 +1,5 @@
-use Rattle.erd_shown.proofs.Common.{◌≡◌, false, sym, ap, subst, option_map-Some, slice_get, Data, has_float, view, role, objects, HasFittingNumbers, IsTree, IsBounded, IsAccepted}
+use Rattle.erd_shown.proofs.Common.{◌≡◌, false, sym, ap, subst, option_map-Some, slice_get, Data, has_float, view, role, objects, HasFittingNumbers, IsTree}
+use Rattle.erd_shown.proofs.Common.{IsBounded, IsAccepted}
 use Rattle.erd_shown.specs.Laws.{IsTaken}
 use Rattle.erd_shown.proofs.Placed.{whole_there}
 use Rattle.erd_shown.proofs.reworded.object_at.Goals as goal
@@ -8,6 +9,12 @@ returns-in-Some-clause-whole c =
     let π = c.args.report.now.prefer in
     let t = view c.args.report.now.tree in
     let same : view c.tree-tree.result.now ≡ t = ap view c.tree-tree.ensures.tree in
-    let given : IsTaken π t = record { accepted = subst (IsAccepted π) same c.tree-tree.ensures.accepted; is_tree = subst IsTree same c.tree-tree.ensures.is_tree; fits = subst HasFittingNumbers same c.tree-tree.ensures.fits } in
+    let given : IsTaken π t =
+    record {
+      accepted = subst (IsAccepted π) same c.tree-tree.ensures.accepted;
+      is_tree = subst IsTree same c.tree-tree.ensures.is_tree;
+      fits = subst HasFittingNumbers same c.tree-tree.ensures.fits;
+    } in
     let o = option_map-Some (λ o. o.value) (slice_get (objects c.args.family t) c.args.position) (view c.in-Some.object.now) (sym c.in-Some.ensures) in
-    subst (λ (x : Data). has_float x ≡ false) o.2 (whole_there π t given (subst IsBounded same c.tree-tree.ensures.bounded) (role.OfFamily c.args.family) c.args.position o.0 o.1)
+    subst (λ (x : Data). has_float x ≡ false) o.2 (whole_there π t given (subst IsBounded same c.tree-tree.ensures.bounded) (role.OfFamily c.args.family)
+    c.args.position o.0 o.1)

@@ -8,11 +8,13 @@ loop-position-preserved c =
     let t = view c.args.left.now.tree in
     let i = c.loop-position.position in
     let low : i < length (objects c.args.family t) = subst (λ (n : ℕ). i < n) c.count-count.ensures c.loop-position-test.true in
-    next_mark (is_reworded c.args.left.now.prefer (view c.args.left.now.tree) c.args.right.now.prefer (view c.args.right.now.tree) c.args.family) c.args.family t i c.loop-position.found.items _ _ low c.in_ok-mark.ensures c.in_ok-push.ensures.items c.loop-position.invariant
+    next_mark (is_reworded c.args.left.now.prefer (view c.args.left.now.tree) c.args.right.now.prefer (view c.args.right.now.tree) c.args.family) c.args.family
+    t i c.loop-position.found.items _ _ low c.in_ok-mark.ensures c.in_ok-push.ensures.items c.loop-position.invariant
 
 pub returns : goal.returns
 returns c =
     let t = view c.args.left.now.tree in
     let i = c.loop-position.position in
     let past : length (objects c.args.family t) ≤ i = subst (λ (n : ℕ). n ≤ i) c.count-count.ensures c.loop-position-test.false in
-    all_marked (is_reworded c.args.left.now.prefer (view c.args.left.now.tree) c.args.right.now.prefer (view c.args.right.now.tree) c.args.family) c.args.family t i c.loop-position.found.items past c.loop-position.invariant
+    all_marked (is_reworded c.args.left.now.prefer (view c.args.left.now.tree) c.args.right.now.prefer (view c.args.right.now.tree) c.args.family) c.args.family
+    t i c.loop-position.found.items past c.loop-position.invariant

@@ -5,4 +5,5 @@ use Rattle.erd_shown.proofs.reworded.reworded.Given as goal
 
 abbrev pub invariant-loop-position : goal.invariant-loop-position
 invariant-loop-position l =
-    l.found.items ++ drop l.position (marks_of (is_reworded l.left.prefer (view l.left.tree) l.right.prefer (view l.right.tree) l.family) l.family (view l.left.tree)) ≡ marks_of (is_reworded l.left.prefer (view l.left.tree) l.right.prefer (view l.right.tree) l.family) l.family (view l.left.tree)
+    l.found.items ++ drop l.position (marks_of (is_reworded l.left.prefer (view l.left.tree) l.right.prefer (view l.right.tree) l.family) l.family
+    (view l.left.tree)) ≡ marks_of (is_reworded l.left.prefer (view l.left.tree) l.right.prefer (view l.right.tree) l.family) l.family (view l.left.tree)

@@ -9,7 +9,8 @@ returns-in-Some c =
     let ρ = c.args.right.now.prefer in
     let u = view c.args.right.now.tree in
     c.any_reworded.ensures
-    ∙ ap (list_any (is_selection_reworded π t ρ u)) (c.entries_at-selections.ensures ∙ ap (λ o. option_map_or (entries_at (codes "ContestSelection")) o []) c.in-Some.ensures.there)
+    ∙ ap (list_any (is_selection_reworded π t ρ u)) (c.entries_at-selections.ensures ∙ ap (λ o. option_map_or (entries_at (codes "ContestSelection")) o [])
+    c.in-Some.ensures.there)
 
 pub returns-in-None : goal.returns-in-None
 returns-in-None c =

@@ -12,5 +12,6 @@ returns c =
     let unit = is_reworded π t ρ u family.Unit in
     c.one_of.ensures
     ∙ ap₂ (λ x y. x || y)
-    (c.any_named-party.ensures party (c.deref.ensures.value ∙ c.requires.marks.parties) ∙ ap (true_of_any_named party t family.Party) c.entries_at-parties.ensures)
+    (c.any_named-party.ensures party (c.deref.ensures.value ∙ c.requires.marks.parties)
+    ∙ ap (true_of_any_named party t family.Party) c.entries_at-parties.ensures)
     (c.any_named-unit.ensures unit (c.deref-2.ensures.value ∙ c.requires.marks.units) ∙ ap (true_of_any_named unit t family.Unit) c.entries_at-units.ensures)

@@ -6,7 +6,8 @@ use Rattle.erd_shown.proofs.reworded_lines.is_ballot_reworded.Goals as goal
 
 pub returns : goal.returns
 returns c =
-    let P : ℕ × Data → Bool = λ l. is_line_reworded c.args.left.now.prefer (view c.args.left.now.tree) c.args.right.now.prefer (view c.args.right.now.tree) l.1 in
+    let P : ℕ × Data → Bool = λ l. is_line_reworded c.args.left.now.prefer (view c.args.left.now.tree) c.args.right.now.prefer
+    (view c.args.right.now.tree) l.1 in
     c.one_of.ensures
     ∙ ap₂ (λ x y. x || y)
     (c.any_line_reworded-line.ensures ∙ any_map P of_line c.deref.result.now ∙ ap (list_any P) (ap (map of_line) c.deref.ensures.value ∙ c.in_ok-lines.ensures))

@@ -9,6 +9,7 @@ pub returns : goal.returns
 returns c =
     on_ok_weaker c.end_object.result
     (λ last.
-    member_then c.args.out.now c.key.new.self c.write_selection_rows.new.out c.end_object.new.self (codes "selections") (rows_of_selections (of_selections c.args.inside.now)) no_members c.in_ok-key.ensures
+    member_then c.args.out.now c.key.new.self c.write_selection_rows.new.out c.end_object.new.self (codes "selections")
+    (rows_of_selections (of_selections c.args.inside.now)) no_members c.in_ok-key.ensures
     c.in_ok-write_selection_rows.ensures last)
     c.end_object.ensures

@@ -10,7 +10,8 @@ loop-other-preserved c left i h =
     let j = c.loop-other.other in
     let right = c.args.right.now in
     let low : j < length right = omega (arith, c.loop-other-test.true, c.requires.within) in
-    subst (λ (rows : List Row). AreUpTo left right rows i (j + 1)) (sym (c.in_ok-push.ensures.items ∙ ap (λ r. c.loop-other.rows.items ++ r ∷ []) c.right_row.ensures))
+    subst (λ (rows : List Row). AreUpTo left right rows i (j + 1))
+    (sym (c.in_ok-push.ensures.items ∙ ap (λ r. c.loop-other.rows.items ++ r ∷ []) c.right_row.ensures))
     (up_right left right c.loop-other.rows.items i j (c.loop-other.invariant left i h) (get_or right j None) (slice_get-get_or right j None low))
 
 pub returns : goal.returns

@@ -22,8 +22,12 @@ returns c =
     let there =
     ap₂ (partners (eq_by_cmp lent_cmp)) other one ∙ partners_for lent (eq_by_cmp lent_cmp) same (λ a b. refl) others ones in
     record {
-      left_names = c.in_ok-lefts.ensures ∙ ap (λ (b : Bool). names_in_order b (names_on c.args.left.now.prefer (view c.args.left.now.tree) (view c.args.one.now))) c.are_listed-both_listed.ensures;
-      right_names = c.in_ok-rights.ensures ∙ ap (λ (b : Bool). names_in_order b (names_on c.args.right.now.prefer (view c.args.right.now.tree) (view c.args.other.now))) c.are_listed-both_listed.ensures;
+      left_names =
+          c.in_ok-lefts.ensures ∙ ap (λ (b : Bool). names_in_order b (names_on c.args.left.now.prefer (view c.args.left.now.tree) (view c.args.one.now)))
+          c.are_listed-both_listed.ensures;
+      right_names =
+          c.in_ok-rights.ensures ∙ ap (λ (b : Bool). names_in_order b (names_on c.args.right.now.prefer (view c.args.right.now.tree) (view c.args.other.now)))
+          c.are_listed-both_listed.ensures;
       are_rows =
           subst (λ (xs : List (Option ℕ)). AreRows (partners same (map lent ones) (map lent others)) xs rows) there
           (subst (λ (xs : List (Option ℕ)). AreRows xs (partners (eq_by_cmp lent_cmp) c.deref-2.result.now c.deref.result.now) rows) here c.in_ok-rows.ensures);

@@ -5,4 +5,5 @@ use Rattle.erd_shown.proofs.selection_words.selections_text.Goals as goal
 pub returns : goal.returns
 returns c =
     let told = selections_in c.args.report.now.prefer (view c.args.report.now.tree) c.args.position in
-    IfOk-weaker c.text_of.result _ _ (λ text is. is told (c.in_ok-write_selections.ensures ∙ ap (λ ts. ts ++ value_tokens told) c.new-out.ensures)) c.text_of.ensures
+    IfOk-weaker c.text_of.result _ _ (λ text is. is told (c.in_ok-write_selections.ensures ∙ ap (λ ts. ts ++ value_tokens told) c.new-out.ensures))
+    c.text_of.ensures

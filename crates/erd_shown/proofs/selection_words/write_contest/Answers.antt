@@ -1,4 +1,5 @@
-use Rattle.erd_shown.proofs.Common.{◌≡◌, ℕ, [], ◌++◌, map, slice_get, sym, ap, ◌∙◌, subst, option_map, option_map-Some, codes, view, entries_at, family, HasFittingNumbers, IsTree, IsBounded, IsAccepted, on_ok_weaker, objects, value_tokens}
+use Rattle.erd_shown.proofs.Common.{◌≡◌, ℕ, [], ◌++◌, map, slice_get, sym, ap, ◌∙◌, subst, option_map, option_map-Some, codes, view, entries_at, family}
+use Rattle.erd_shown.proofs.Common.{HasFittingNumbers, IsTree, IsBounded, IsAccepted, on_ok_weaker, objects, value_tokens}
 use Rattle.std.specs.Option.{option_map_or}
 use Rattle.erd_text.proofs.WholeValues.{whole_list_at}
 use Rattle.erd_meaning.specs.Lookups.{selections_before}
@@ -17,14 +18,17 @@ returns-in-Some c =
     let o = option_map-Some (λ o. o.value) (slice_get (objects family.Contest t) i) (view c.in-Some.contest.now) (sym c.in-Some.ensures.there) in
     let entries = c.entries_at.ensures ∙ ap (entries_at (codes "ContestSelection")) (sym o.2) in
     let named =
-    named_from_start π t (subst (IsAccepted π) same c.tree-tree.ensures.accepted) (subst IsTree same c.tree-tree.ensures.is_tree) (subst HasFittingNumbers same c.tree-tree.ensures.fits) (subst IsBounded same c.tree-tree.ensures.bounded) i o.0 o.1 in
+    named_from_start π t (subst (IsAccepted π) same c.tree-tree.ensures.accepted) (subst IsTree same c.tree-tree.ensures.is_tree)
+    (subst HasFittingNumbers same c.tree-tree.ensures.fits) (subst IsBounded same c.tree-tree.ensures.bounded) i o.0 o.1 in
     let there : AreNamedFrom π t c.first_selection-start.result (map view c.entries_at.result.now) =
-    subst (λ (s : ℕ). AreNamedFrom π t s (map view c.entries_at.result.now)) (sym c.first_selection-start.ensures) (subst (AreNamedFrom π t (selections_before t i)) (sym entries) named) in
+    subst (λ (s : ℕ). AreNamedFrom π t s (map view c.entries_at.result.now)) (sym c.first_selection-start.ensures)
+    (subst (AreNamedFrom π t (selections_before t i)) (sym entries) named) in
     let floats = whole_list_at (codes "ContestSelection") (view c.in-Some.contest.now) c.entries_at.result.now c.in-Some.ensures.whole c.entries_at.ensures in
     on_ok_weaker c.write_in_order.result
     (λ written.
     written there floats
-    ∙ ap (λ ds. c.args.out.now ++ value_tokens (array_of (map (words_data π t family.Selection) (in_name_order π t ds)))) (entries ∙ ap (λ x. option_map_or (entries_at (codes "ContestSelection")) (option_map (λ o. o.value) x) []) (sym o.1)))
+    ∙ ap (λ ds. c.args.out.now ++ value_tokens (array_of (map (words_data π t family.Selection) (in_name_order π t ds))))
+    (entries ∙ ap (λ x. option_map_or (entries_at (codes "ContestSelection")) (option_map (λ o. o.value) x) []) (sym o.1)))
     c.write_in_order.ensures
 
 pub returns-in-None : goal.returns-in-None
@@ -32,5 +36,8 @@ returns-in-None c =
     let π = c.args.report.now.prefer in
     let t = view c.args.report.now.tree in
     on_ok_weaker c.write_nothing.result
-    (λ written. written ∙ ap (λ o. c.args.out.now ++ value_tokens (array_of (map (words_data π t family.Selection) (in_name_order π t (option_map_or (entries_at (codes "ContestSelection")) o []))))) c.in-None.ensures.there)
+    (λ written. written
+    ∙ ap (λ o. c.args.out.now
+    ++ value_tokens (array_of (map (words_data π t family.Selection) (in_name_order π t (option_map_or (entries_at (codes "ContestSelection")) o [])))))
+    c.in-None.ensures.there)
     c.write_nothing.ensures

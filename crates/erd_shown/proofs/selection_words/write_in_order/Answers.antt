@@ -1,4 +1,5 @@
-use Rattle.erd_shown.proofs.Common.{◌≡◌, ◌++◌, map, sym, ap, ◌∙◌, on_ok_weaker, Bor, Value, Data, family, view, name_cmp, name_cmp_total, rising_list, by_first, value_tokens, NameParts}
+use Rattle.erd_shown.proofs.Common.{◌≡◌, ◌++◌, map, sym, ap, ◌∙◌, on_ok_weaker, Bor, Value, family, view, name_cmp, name_cmp_total, rising_list, by_first}
+use Rattle.erd_shown.proofs.Common.{value_tokens, NameParts}
 use Rattle.erd_meaning.proofs.Common.{map-map}
 use Rattle.erd_text.proofs.StableRising.{rising_from_stable}
 use Rattle.erd_shown.specs.BallotWords.{words_data}
@@ -14,10 +15,12 @@ returns c =
     let ds = map view c.args.selections.now in
     let old = c.in_ok-named_selections.field-0.items in
     let sorted = c.deref.result.now in
-    let rising : sorted ≡ rising_list (by_first name_cmp) old = c.deref.ensures.value ∙ rising_from_stable name_cmp name_cmp_total old c.in_ok-pairs.pairs.items c.in_ok-pairs.ensures in
+    let rising : sorted ≡ rising_list (by_first name_cmp) old =
+    c.deref.ensures.value ∙ rising_from_stable name_cmp name_cmp_total old c.in_ok-pairs.pairs.items c.in_ok-pairs.ensures in
     on_ok_weaker c.write_pairs.result
     (λ written named whole.
     written (values_whole π t ds old sorted (c.in_ok-named_selections.ensures named) rising whole)
     ∙ ap (λ rs. c.args.out.now ++ value_tokens (array_of rs))
-    (sym (map-map words (λ (p : NameParts × Bor Value). view p.1.now) sorted) ∙ ap (map words) (values_sorted π t ds old sorted (c.in_ok-named_selections.ensures named) rising)))
+    (sym (map-map words (λ (p : NameParts × Bor Value). view p.1.now) sorted)
+    ∙ ap (map words) (values_sorted π t ds old sorted (c.in_ok-named_selections.ensures named) rising)))
     c.write_pairs.ensures

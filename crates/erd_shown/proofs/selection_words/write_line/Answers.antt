@@ -13,7 +13,8 @@ returns-then-lists_selections c =
     (λ wrote.
     wrote
     ∙ ap (λ d. c.args.out.now ++ value_tokens d)
-    (then_so _ _ _ _ (sym c.lists_selections.ensures ∙ c.if-lists_selections.true) (ap (λ ds. array_of (map (words_at_reference π t family.Selection) ds)) c.entries_at-references.ensures)))
+    (then_so _ _ _ _ (sym c.lists_selections.ensures ∙ c.if-lists_selections.true)
+    (ap (λ ds. array_of (map (words_at_reference π t family.Selection) ds)) c.entries_at-references.ensures)))
     c.write_listed.ensures
 
 pub returns-else-lists_selections : goal.returns-else-lists_selections
@@ -24,5 +25,6 @@ returns-else-lists_selections c =
     (λ wrote.
     wrote
     ∙ ap (λ d. c.args.out.now ++ value_tokens d)
-    (else_so _ _ _ _ (sym c.lists_selections.ensures ∙ c.if-lists_selections.false) (ap (λ id. array_of (map (words_data π t family.Selection) (in_name_order π t (selections_named t id)))) c.text_at.ensures)))
+    (else_so _ _ _ _ (sym c.lists_selections.ensures ∙ c.if-lists_selections.false)
+    (ap (λ id. array_of (map (words_data π t family.Selection) (in_name_order π t (selections_named t id)))) c.text_at.ensures)))
     c.write_named.ensures

@@ -9,7 +9,10 @@ returns-in-Some c =
     let π = c.args.report.now.prefer in
     let t = view c.args.report.now.tree in
     on_ok_weaker c.write_contest.result
-    (λ written. written ∙ ap (λ o. c.args.out.now ++ value_tokens (array_of (map (words_data π t family.Selection) (in_name_order π t (option_map_or (entries_at (codes "ContestSelection")) o []))))) c.in-Some.ensures)
+    (λ written. written
+    ∙ ap (λ o. c.args.out.now
+    ++ value_tokens (array_of (map (words_data π t family.Selection) (in_name_order π t (option_map_or (entries_at (codes "ContestSelection")) o [])))))
+    c.in-Some.ensures)
     c.write_contest.ensures
 
 pub returns-in-None : goal.returns-in-None
@@ -17,5 +20,8 @@ returns-in-None c =
     let π = c.args.report.now.prefer in
     let t = view c.args.report.now.tree in
     on_ok_weaker c.write_nothing.result
-    (λ written. written ∙ ap (λ o. c.args.out.now ++ value_tokens (array_of (map (words_data π t family.Selection) (in_name_order π t (option_map_or (entries_at (codes "ContestSelection")) o []))))) c.in-None.ensures)
+    (λ written. written
+    ∙ ap (λ o. c.args.out.now
+    ++ value_tokens (array_of (map (words_data π t family.Selection) (in_name_order π t (option_map_or (entries_at (codes "ContestSelection")) o [])))))
+    c.in-None.ensures)
     c.write_nothing.ensures

@@ -6,10 +6,13 @@ use Rattle.erd_shown.proofs.selections.write_in_class.Goals as goal
 
 pub returns : goal.returns
 returns c =
-    let members = object (shown_members (shown_plain c.args.report.now.prefer (view c.args.report.now.tree) c.args.class) (members_in (view c.args.selection.now))) in
+    let members =
+    object (shown_members (shown_plain c.args.report.now.prefer (view c.args.report.now.tree) c.args.class) (members_in (view c.args.selection.now))) in
     on_ok_weaker c.end_object.result
     (λ last whole.
-    two_members c.args.out.now c.begin_object.new.self c.key.new.self c.string.new.self c.key-2.new.self c.write_plain_object.new.out c.end_object.new.self (codes "class") (codes "members")
-    (string (text_of_class c.args.class)) members c.in_ok-begin_object.ensures c.in_ok-key.ensures (c.in_ok-string.ensures ∙ ap (λ s. c.key.new.self ++ value_tokens (string s)) c.type_text.ensures)
+    two_members c.args.out.now c.begin_object.new.self c.key.new.self c.string.new.self c.key-2.new.self c.write_plain_object.new.out c.end_object.new.self
+    (codes "class") (codes "members")
+    (string (text_of_class c.args.class)) members c.in_ok-begin_object.ensures c.in_ok-key.ensures
+    (c.in_ok-string.ensures ∙ ap (λ s. c.key.new.self ++ value_tokens (string s)) c.type_text.ensures)
     c.in_ok-key-2.ensures (c.in_ok-write_plain_object.ensures whole) last)
     c.end_object.ensures

@@ -1,4 +1,5 @@
-use Rattle.erd_shown.proofs.Common.{◌+◌, ◌++◌, length, drop, map, Some, refl, sym, ap, ◌∙◌, or_parts, items_of, items_have_float, has_float, view, value_tokens, items_tokens}
+use Rattle.erd_shown.proofs.Common.{◌+◌, ◌++◌, length, drop, map, Some, refl, sym, ap, ◌∙◌, or_parts, items_of, items_have_float, has_float, view, value_tokens}
+use Rattle.erd_shown.proofs.Common.{items_tokens}
 use Rattle.std.proofs.lemmas.Option.{slice_get_read}
 use Rattle.erd_text.proofs.WrittenTokens.{then_rest}
 use Rattle.erd_shown.specs.Shown.{named_record}
@@ -15,9 +16,11 @@ loop-pair-preserved c whole =
     let p = c.pair-item.result in
     let before = c.loop-pair.invariant whole in
     let left = drop_there ps i p (slice_get_read ps (length ps) i p refl c.loop-pair-test.true c.pair-item.is) in
-    let floats = or_parts (has_float (view p.1.now)) (items_have_float (items_of (map (λ q. view q.1.now) (drop (i + 1) ps)))) (ap (λ xs. items_have_float (items_of (map (λ q. view q.1.now) xs))) (sym left) ∙ before.0) in (
+    let floats = or_parts (has_float (view p.1.now)) (items_have_float (items_of (map (λ q. view q.1.now) (drop (i + 1) ps))))
+    (ap (λ xs. items_have_float (items_of (map (λ q. view q.1.now) xs))) (sym left) ∙ before.0) in (
       floats.1,
-      then_rest c.loop-pair.out (value_tokens (selection_of_pair π t p)) c.write_selection.new.out (items_tokens (items_of (map (selection_of_pair π t) (drop (i + 1) ps)))) _
+      then_rest c.loop-pair.out (value_tokens (selection_of_pair π t p)) c.write_selection.new.out
+          (items_tokens (items_of (map (selection_of_pair π t) (drop (i + 1) ps)))) _
           (c.in_ok-write_selection.ensures floats.0 ∙ ap (λ n. c.loop-pair.out ++ value_tokens (named_record π t (Some n) (view p.1.now))) c.lent.ensures)
           (ap (λ xs. c.loop-pair.out ++ items_tokens (items_of (map (selection_of_pair π t) xs))) (sym left) ∙ before.1),
     )

@@ -8,7 +8,9 @@ pub returns : goal.returns
 returns c =
     on_ok_weaker c.end_object.result
     (λ last whole.
-    two_members c.args.out.now c.begin_object.new.self c.key.new.self c.write_name.new.out c.key-2.new.self c.write_record.new.out c.end_object.new.self (codes "name") (codes "record")
-    (shown_name (Some c.args.name.now)) (record_data (shown_plain c.args.report.now.prefer (view c.args.report.now.tree)) selection_role (view c.args.selection.now)) c.in_ok-begin_object.ensures c.in_ok-key.ensures
+    two_members c.args.out.now c.begin_object.new.self c.key.new.self c.write_name.new.out c.key-2.new.self c.write_record.new.out c.end_object.new.self
+    (codes "name") (codes "record")
+    (shown_name (Some c.args.name.now)) (record_data (shown_plain c.args.report.now.prefer (view c.args.report.now.tree)) selection_role
+    (view c.args.selection.now)) c.in_ok-begin_object.ensures c.in_ok-key.ensures
     c.in_ok-write_name.ensures c.in_ok-key-2.ensures (c.in_ok-write_record.ensures whole) last)
     c.end_object.ensures

@@ -11,7 +11,8 @@ returns c =
     let ds = map view c.args.selections.now in
     let old = c.in_ok-named_selections.field-0.items in
     let sorted = c.deref.result.now in
-    let rising : sorted ≡ rising_list (by_first name_cmp) old = c.deref.ensures.value ∙ rising_from_stable name_cmp name_cmp_total old c.in_ok-pairs.pairs.items c.in_ok-pairs.ensures in
+    let rising : sorted ≡ rising_list (by_first name_cmp) old =
+    c.deref.ensures.value ∙ rising_from_stable name_cmp name_cmp_total old c.in_ok-pairs.pairs.items c.in_ok-pairs.ensures in
     on_ok_weaker c.write_pairs.result
     (λ written named whole.
     written (values_whole π t ds old sorted (c.in_ok-named_selections.ensures named) rising whole)

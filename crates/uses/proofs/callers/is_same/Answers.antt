@@ -12,11 +12,13 @@ compared P answer one other told equal =
 pub returns-clause-same : goal.returns-clause-same
 returns-clause-same c t u is is_other =
     let right = c.in_ok-right_form.ensures.headline in
-    compared _ _ c.in_ok-left_form.left_form.items c.in_ok-right_form.right_form.items (c.eq.ensures ∙ ap₂ bytes_eq c.as_slice.ensures.value c.as_slice-2.ensures.value)
+    compared _ _ c.in_ok-left_form.left_form.items c.in_ok-right_form.right_form.items
+    (c.eq.ensures ∙ ap₂ bytes_eq c.as_slice.ensures.value c.as_slice-2.ensures.value)
     (c.in_ok-left_form.ensures.headline.equal_bytes c.args.right.now _ t u right.form is is_other)
 
 pub returns-clause-says : goal.returns-clause-says
 returns-clause-says c t u is is_other =
     let right = c.in_ok-right_form.ensures.headline in
-    compared _ _ c.in_ok-left_form.left_form.items c.in_ok-right_form.right_form.items (c.eq.ensures ∙ ap₂ bytes_eq c.as_slice.ensures.value c.as_slice-2.ensures.value)
+    compared _ _ c.in_ok-left_form.left_form.items c.in_ok-right_form.right_form.items
+    (c.eq.ensures ∙ ap₂ bytes_eq c.as_slice.ensures.value c.as_slice-2.ensures.value)
     (c.in_ok-left_form.ensures.headline.equal_sayings c.args.right.now _ t u right.form is is_other)

@@ -14,5 +14,6 @@ returns-clause-headline g c b read =
     let π = option_copied c.args.prefer in
     let text = c.in_ok-text.field-0.items in
     headline π b text
-    (canonical_text π b (view c.args.tree.now) (view c.in_ok-report.report.tree) text read c.in_ok-report.ensures.accepted c.requires.nests (ap view c.in_ok-report.ensures.tree)
+    (canonical_text π b (view c.args.tree.now) (view c.in_ok-report.report.tree) text read c.in_ok-report.ensures.accepted c.requires.nests
+    (ap view c.in_ok-report.ensures.tree)
     (subst (λ (π : Preference). IsCanonicalText π (view c.in_ok-report.report.tree) text) c.in_ok-report.ensures.prefer c.in_ok-text.ensures))

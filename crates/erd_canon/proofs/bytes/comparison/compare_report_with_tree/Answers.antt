@@ -17,5 +17,7 @@ returns-in-Ok-answer-clause-ok g c b d accepted read =
     let r = c.in-Ok.report in
     let one = view left.tree in
     compared left.prefer b d one (view c.args.right.now) one (view r.tree) c.in-Ok-answer.found
-    accepted.read accepted.accepted refl read (subst (λ (ρ : Preference). IsAccepted ρ (view c.args.right.now)) c.preference.ensures c.in-Ok.ensures.accepted) (ap view c.in-Ok.ensures.tree)
-    (subst (λ (ρ : Preference). IsDifference (meaning left.prefer one) (meaning ρ (view r.tree)) c.in-Ok-answer.found) (c.in-Ok.ensures.prefer ∙ c.preference.ensures) c.in-Ok-answer.ensures)
+    accepted.read accepted.accepted refl read (subst (λ (ρ : Preference). IsAccepted ρ (view c.args.right.now)) c.preference.ensures c.in-Ok.ensures.accepted)
+    (ap view c.in-Ok.ensures.tree)
+    (subst (λ (ρ : Preference). IsDifference (meaning left.prefer one) (meaning ρ (view r.tree)) c.in-Ok-answer.found)
+    (c.in-Ok.ensures.prefer ∙ c.preference.ensures) c.in-Ok-answer.ensures)

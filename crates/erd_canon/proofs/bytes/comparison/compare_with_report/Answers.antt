@@ -11,11 +11,13 @@ returns-in_err-tree-clause-refused g c =
 pub returns-clause-ok : goal.returns-clause-ok
 returns-clause-ok g c =
     let r = c.args.left.now in
-    IfOk-weaker c.compare_report_with_tree-answer.result (λ found. (b d : List ℕ) → IsAcceptedReport r.prefer b (view r.tree) → IsTreeOf d (view c.in_ok-tree.tree) → IsComparison r.prefer b d found) _
+    IfOk-weaker c.compare_report_with_tree-answer.result (λ found. (b d : List ℕ) → IsAcceptedReport r.prefer b (view r.tree)
+    → IsTreeOf d (view c.in_ok-tree.tree) → IsComparison r.prefer b d found) _
     (λ found compared b accepted. compared b (g.I.Input.bytes c.args.right) accepted c.in_ok-tree.ensures.read) c.compare_report_with_tree-answer.ensures.ok
 
 pub returns-clause-refused : goal.returns-clause-refused
 returns-clause-refused g c =
     let r = c.args.left.now in
-    IfErr-weaker c.compare_report_with_tree-answer.result (λ side. (b d : List ℕ) → IsAcceptedReport r.prefer b (view r.tree) → IsTreeOf d (view c.in_ok-tree.tree) → RefusedSide r.prefer b d side) _
+    IfErr-weaker c.compare_report_with_tree-answer.result (λ side. (b d : List ℕ) → IsAcceptedReport r.prefer b (view r.tree)
+    → IsTreeOf d (view c.in_ok-tree.tree) → RefusedSide r.prefer b d side) _
     (λ side refused b accepted. refused b (g.I.Input.bytes c.args.right) accepted c.in_ok-tree.ensures.read) c.compare_report_with_tree-answer.ensures.refused

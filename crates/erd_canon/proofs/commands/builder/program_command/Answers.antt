@@ -12,4 +12,6 @@ returns c =
     ∙ ap₂ with_subcommand (c.in_ok-subcommand-3.ensures.shape c.in_ok-compare_command.ensures.local
     ∙ ap₂ with_subcommand (c.in_ok-subcommand-2.ensures.shape c.in_ok-canon_command.ensures.local
     ∙ ap₂ with_subcommand (c.in_ok-subcommand.ensures.shape c.in_ok-check_command.ensures.local
-    ∙ ap₂ with_subcommand named (ap top c.in_ok-check_command.ensures.app)) (ap top c.in_ok-canon_command.ensures.app)) (ap top c.in_ok-compare_command.ensures.app)) (ap top c.in_ok-differences_command.ensures.app)) (ap top c.in_ok-ballots_command.ensures.app)) (ap top c.in_ok-prepare_command.ensures.app)) c.subcommand-6.ensures
+    ∙ ap₂ with_subcommand named (ap top c.in_ok-check_command.ensures.app)) (ap top c.in_ok-canon_command.ensures.app))
+    (ap top c.in_ok-compare_command.ensures.app)) (ap top c.in_ok-differences_command.ensures.app)) (ap top c.in_ok-ballots_command.ensures.app))
+    (ap top c.in_ok-prepare_command.ensures.app)) c.subcommand-6.ensures

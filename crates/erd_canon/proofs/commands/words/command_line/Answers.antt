@@ -1,4 +1,5 @@
-use Rattle.erd_canon.proofs.Common.{◌≡◌, true, ◌⊎◌, [], ◌∷◌, map, string_bytes, sym, ap, ◌∙◌, subst, kind_of, App, is_simple, subcommand_of, subcommand_rows_of, takes, IsAmong, fault_of, is_simple_and_free, OutOfMemory, words_of, request_in, program}
+use Rattle.erd_canon.proofs.Common.{◌≡◌, true, ◌⊎◌, [], ◌∷◌, map, string_bytes, sym, ap, ◌∙◌, subst, kind_of, App, is_simple, subcommand_of, subcommand_rows_of}
+use Rattle.erd_canon.proofs.Common.{takes, IsAmong, fault_of, is_simple_and_free, OutOfMemory, words_of, request_in, program}
 use Rattle.erd_canon.proofs.lines.LineReadings.{line_taken, program_free, program_simple, exact_of, fault_read, read_of}
 use Rattle.erd_canon.proofs.commands.words.command_line.Goals as goal
 

@@ -7,4 +7,5 @@ pub returns-in-Err : goal.returns-in-Err
 returns-in-Err c =
     let π = option_copied c.args.prefer in
     IfOk-weaker c.refused_side.result _ _
-    (λ answer a. refused_pair (TellsBeside c.args.one c.args.other π) π c.args.left.now c.args.right.now c.in-Err.side answer.outcome (string_bytes answer.text) c.in-Err.ensures.refused a) c.refused_side.ensures
+    (λ answer a. refused_pair (TellsBeside c.args.one c.args.other π) π c.args.left.now c.args.right.now c.in-Err.side answer.outcome (string_bytes answer.text)
+    c.in-Err.ensures.refused a) c.refused_side.ensures

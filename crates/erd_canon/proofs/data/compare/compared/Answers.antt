@@ -9,5 +9,6 @@ pub returns-in_ok-to_string-in-Some-clause-text : goal.returns-in_ok-to_string-i
 returns-in_ok-to_string-in-Some-clause-text c =
     let text = c.in_ok-to_string-in-Some in
     subst (λ found. IsDataText (string_bytes text.field-0) (comparison_data found)) (sym c.in-Some.is)
-    (value_text (string_bytes text.field-0) (view c.in_ok-to_value-in-Some.field-0) (difference_data c.in-Some.difference) (difference_value c.in-Some.difference) c.in_ok-to_value-in-Some.ensures
+    (value_text (string_bytes text.field-0) (view c.in_ok-to_value-in-Some.field-0) (difference_data c.in-Some.difference)
+    (difference_value c.in-Some.difference) c.in_ok-to_value-in-Some.ensures
     text.ensures.text text.ensures.reads_back (IsUtf8-string_bytes text.field-0))

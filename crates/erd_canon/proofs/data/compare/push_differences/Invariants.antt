@@ -7,4 +7,5 @@ use Rattle.erd_canon.proofs.data.compare.push_differences.Given as goal
 -- with those that are left, all are appended
 abbrev pub invariant-loop-difference : goal.invariant-loop-difference
 invariant-loop-difference l =
-    string_bytes l.text ++ items_text l.later (items_of (map detailed_data (drop l.difference-index l.found))) ≡ string_bytes l.fn.text ++ compact_text (differences_data l.found)
+    string_bytes l.text ++ items_text l.later (items_of (map detailed_data (drop l.difference-index l.found))) ≡ string_bytes l.fn.text
+    ++ compact_text (differences_data l.found)

@@ -4,5 +4,7 @@ use Rattle.erd_canon.proofs.data.listed.push_entry.Goals as goal
 
 pub returns-clause-wrote : goal.returns-clause-wrote
 returns-clause-wrote g c =
-    two_pieces (string_bytes c.args.text.now) (comma_if c.args.later) (string_bytes c.push_comma.new.text) (compact_text (g.T.Listed.value c.args.entry.now)) (string_bytes c.push_str.new.self)
-    c.in_ok-push_comma.ensures (c.in_ok-push_str.ensures.bytes ∙ ap (λ t. string_bytes c.push_comma.new.text ++ t) (c.as_str.ensures.value ∙ c.in_ok-object.ensures.text))
+    two_pieces (string_bytes c.args.text.now) (comma_if c.args.later) (string_bytes c.push_comma.new.text) (compact_text (g.T.Listed.value c.args.entry.now))
+    (string_bytes c.push_str.new.self)
+    c.in_ok-push_comma.ensures (c.in_ok-push_str.ensures.bytes ∙ ap (λ t. string_bytes c.push_comma.new.text ++ t)
+    (c.as_str.ensures.value ∙ c.in_ok-object.ensures.text))

@@ -5,5 +5,6 @@ use Rattle.erd_canon.proofs.data.pieces.canonical_data_piece.Goals as goal
 pub returns-in-Err : goal.returns-in-Err
 returns-in-Err c =
     IfOk-weaker c.refused.result _ _
-    (λ answer a. form_refused (option_copied c.args.prefer) c.args.bytes.now c.in-Err.refusal c.args.piece.now answer.outcome answer.told answer.text.items c.in-Err.ensures.refused a)
+    (λ answer a. form_refused (option_copied c.args.prefer) c.args.bytes.now c.in-Err.refusal c.args.piece.now answer.outcome answer.told answer.text.items
+    c.in-Err.ensures.refused a)
     c.refused.ensures

@@ -8,5 +8,7 @@ pub returns : goal.returns
 returns c =
     let why = c.in_ok-outcome in
     subst (AnswersData (TellsPieceAs c.args.piece.now why.outcome why.told c.args.refusal.now)) (ap (λ v. v.items) (sym c.into_bytes.ensures.value))
-    (text_alone (TellsPieceAs c.args.piece.now why.outcome why.told c.args.refusal.now) (string_bytes c.new-text.result) (string_bytes c.push_refusal_piece.new.text)
-    (why_value c.args.piece.now why.outcome why.told c.args.refusal.now) c.new-text.ensures.bytes why.ensures (IsUtf8-string_bytes c.push_refusal_piece.new.text))
+    (text_alone (TellsPieceAs c.args.piece.now why.outcome why.told c.args.refusal.now) (string_bytes c.new-text.result)
+    (string_bytes c.push_refusal_piece.new.text)
+    (why_value c.args.piece.now why.outcome why.told c.args.refusal.now) c.new-text.ensures.bytes why.ensures
+    (IsUtf8-string_bytes c.push_refusal_piece.new.text))

@@ -5,4 +5,5 @@ use Rattle.erd_canon.proofs.data.texts.check_text_piece.Goals as goal
 pub returns-in-Err : goal.returns-in-Err
 returns-in-Err c =
     IfOk-weaker c.refused.result _ _
-    (λ answer a. (lines_refused (option_copied c.args.prefer) c.args.bytes.now c.in-Err.refusal c.args.piece.now answer.outcome answer.told answer.text.items c.in-Err.ensures.refused a).0) c.refused.ensures
+    (λ answer a. (lines_refused (option_copied c.args.prefer) c.args.bytes.now c.in-Err.refusal c.args.piece.now answer.outcome answer.told answer.text.items
+    c.in-Err.ensures.refused a).0) c.refused.ensures

@@ -5,4 +5,5 @@ use Rattle.erd_canon.proofs.engines.answers.lines_of.Given as goal
 -- with those that are left, all are appended
 abbrev pub invariant-loop-difference : goal.invariant-loop-difference
 invariant-loop-difference l =
-    string_bytes l.text ++ text_of_lines (map (λ d. difference_line d.difference) (drop l.difference-index l.found)) ≡ text_of_lines (map (λ d. difference_line d.difference) l.found)
+    string_bytes l.text ++ text_of_lines (map (λ d. difference_line d.difference) (drop l.difference-index l.found))
+    ≡ text_of_lines (map (λ d. difference_line d.difference) l.found)

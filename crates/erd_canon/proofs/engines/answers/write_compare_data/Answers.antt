@@ -6,7 +6,8 @@ use Rattle.erd_canon.proofs.engines.answers.write_compare_data.Goals as goal
 pub returns-in-Ok-clause-written : goal.returns-in-Ok-clause-written
 returns-in-Ok-clause-written g c =
     let answer = c.in-Ok.answer in
-    pair_written (IsCompareLine (option_copied c.args.prefer)) c.args.left.now c.args.right.now (string_bytes answer.text ++ 10 ∷ []) answer.outcome c.write_line.result _ _
+    pair_written (IsCompareLine (option_copied c.args.prefer)) c.args.left.now c.args.right.now (string_bytes answer.text ++ 10 ∷ []) answer.outcome
+    c.write_line.result _ _
     (string_bytes answer.text, c.in-Ok.ensures, refl) c.write_line.ensures.outcome c.write_line.ensures.wrote
 
 pub returns-in-Ok-clause-broken : goal.returns-in-Ok-clause-broken

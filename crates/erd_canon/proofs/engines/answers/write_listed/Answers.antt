@@ -27,19 +27,23 @@ returns-in-Ok-clause-broken g c = λ fails.
 pub returns-in-Err-Left-clause-written : goal.returns-in-Err-Left-clause-written
 returns-in-Err-Left-clause-written g c =
     let refused = subst (RefusedSide (option_copied c.args.prefer) c.args.left.now c.args.right.now) c.in-Err-Left.field-0-is c.in-Err-Left.ensures.refused in
-    left_written (option_copied c.args.prefer) (AreListed (option_copied c.args.prefer)) c.args.left.now c.args.right.now c.in-Err-Left.refusal c.write_refusal.result _ _ refused c.write_refusal.ensures.written
+    left_written (option_copied c.args.prefer) (AreListed (option_copied c.args.prefer)) c.args.left.now c.args.right.now c.in-Err-Left.refusal
+    c.write_refusal.result _ _ refused c.write_refusal.ensures.written
 
 pub returns-in-Err-Left-clause-broken : goal.returns-in-Err-Left-clause-broken
 returns-in-Err-Left-clause-broken g c = λ fails.
     let refused = subst (RefusedSide (option_copied c.args.prefer) c.args.left.now c.args.right.now) c.in-Err-Left.field-0-is c.in-Err-Left.ensures.refused in
-    left_part (option_copied c.args.prefer) (AreListed (option_copied c.args.prefer)) c.args.left.now c.args.right.now c.in-Err-Left.refusal _ _ refused (c.write_refusal.ensures.broken fails)
+    left_part (option_copied c.args.prefer) (AreListed (option_copied c.args.prefer)) c.args.left.now c.args.right.now c.in-Err-Left.refusal _ _ refused
+    (c.write_refusal.ensures.broken fails)
 
 pub returns-in-Err-Right-clause-written : goal.returns-in-Err-Right-clause-written
 returns-in-Err-Right-clause-written g c =
     let refused = subst (RefusedSide (option_copied c.args.prefer) c.args.left.now c.args.right.now) c.in-Err-Right.field-0-is c.in-Err-Right.ensures.refused in
-    right_written (option_copied c.args.prefer) (AreListed (option_copied c.args.prefer)) c.args.left.now c.args.right.now c.in-Err-Right.refusal c.write_refusal-in-Err-Right.result _ _ refused.0 refused.1 c.write_refusal-in-Err-Right.ensures.written
+    right_written (option_copied c.args.prefer) (AreListed (option_copied c.args.prefer)) c.args.left.now c.args.right.now c.in-Err-Right.refusal
+    c.write_refusal-in-Err-Right.result _ _ refused.0 refused.1 c.write_refusal-in-Err-Right.ensures.written
 
 pub returns-in-Err-Right-clause-broken : goal.returns-in-Err-Right-clause-broken
 returns-in-Err-Right-clause-broken g c = λ fails.
     let refused = subst (RefusedSide (option_copied c.args.prefer) c.args.left.now c.args.right.now) c.in-Err-Right.field-0-is c.in-Err-Right.ensures.refused in
-    right_part (option_copied c.args.prefer) (AreListed (option_copied c.args.prefer)) c.args.left.now c.args.right.now c.in-Err-Right.refusal _ _ refused.0 refused.1 (c.write_refusal-in-Err-Right.ensures.broken fails)
+    right_part (option_copied c.args.prefer) (AreListed (option_copied c.args.prefer)) c.args.left.now c.args.right.now c.in-Err-Right.refusal _ _ refused.0
+    refused.1 (c.write_refusal-in-Err-Right.ensures.broken fails)

@@ -7,9 +7,15 @@ use Rattle.erd_canon.proofs.engines.asked.run_report.Goals as goal
 
 pub returns : goal.returns
 returns g c =
-    let whole = subst (IsReadWhole most_bytes (g.S.Source.reader.remaining c.args.reader.now) (g.S.Source.reader.remaining c.read_all.new.source)) (sym c.as_slice.ensures.value)
+    let whole = subst (IsReadWhole most_bytes (g.S.Source.reader.remaining c.args.reader.now) (g.S.Source.reader.remaining c.read_all.new.source))
+    (sym c.as_slice.ensures.value)
     (read_whole c.in_ok-bytes.ensures.all c.in_ok-bytes.bytes.ok.0 c.in_ok-bytes.ensures.limit) in
-    search (rules, whole_report (report_answers c.args.command (option_copied c.args.prefer)) _ _ c.write_report.result whole c.write_report.ensures.written, broken_report whole c.write_report.ensures.broken)
+    search (
+      rules,
+      whole_report (report_answers c.args.command (option_copied c.args.prefer)) _ _ c.write_report.result whole c.write_report.ensures.written,
+      broken_report whole c.write_report.ensures.broken,
+    )
 
 pub returns-in_err-bytes : goal.returns-in_err-bytes
-returns-in_err-bytes g c = let not = not_of_fault c.from_residual.result c.in_err-bytes.field-0.0 c.from_residual.ensures.1 (λ w. c.in_err-bytes.ensures.no_write (ap Err w)) in search (rules, not)
+returns-in_err-bytes g c = let not = not_of_fault c.from_residual.result c.in_err-bytes.field-0.0 c.from_residual.ensures.1
+    (λ w. c.in_err-bytes.ensures.no_write (ap Err w)) in search (rules, not)

@@ -7,7 +7,8 @@ pub returns-in_err-write_byte-clause-part : goal.returns-in_err-write_byte-claus
 returns-in_err-write_byte-clause-part g c =
     let name = c.args.name.now in
     let i = c.loop-byte.byte-index in
-    on_error c.from_residual.result (IsFrontMoved-more c.loop-byte.buffer.items (escaped_byte (get_or name i 0)) (escaped_name (drop (i + 1) name)) c.loop-byte.invariant.moved
+    on_error c.from_residual.result (IsFrontMoved-more c.loop-byte.buffer.items (escaped_byte (get_or name i 0)) (escaped_name (drop (i + 1) name))
+    c.loop-byte.invariant.moved
     (at_drop_more (λ l. escaped_name l) name i 0 c.loop-byte-test.true) c.in_err-write_byte.ensures.part)
 
 pub loop-byte-preserved : goal.loop-byte-preserved

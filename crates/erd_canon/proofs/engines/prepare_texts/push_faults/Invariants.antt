@@ -3,4 +3,5 @@ use Rattle.erd_canon.proofs.engines.prepare_texts.push_faults.Given as goal
 
 -- with those that are left, all are appended
 abbrev pub invariant-loop-fault : goal.invariant-loop-fault
-invariant-loop-fault l = string_bytes l.text ++ text_of_lines (map fault_line (iter_rest l.fault-iterator)) ≡ string_bytes l.fn.text ++ text_of_lines (map fault_line l.faults)
+invariant-loop-fault l = string_bytes l.text ++ text_of_lines (map fault_line (iter_rest l.fault-iterator)) ≡ string_bytes l.fn.text
+    ++ text_of_lines (map fault_line l.faults)

@@ -9,4 +9,5 @@ pub loop-step-init : goal.loop-step-init
 loop-step-init c = ([], no_step, search rules)
 
 pub loop-step-preserved : goal.loop-step-preserved
-loop-step-preserved c = one_more_tried (view c.args.report.now) STEPS c.loop-step.step-index ClassNames _ _ (omega arith) c.loop-step.invariant c.in_ok-push_tried.ensures
+loop-step-preserved c = one_more_tried (view c.args.report.now) STEPS c.loop-step.step-index ClassNames _ _ (omega arith) c.loop-step.invariant
+    c.in_ok-push_tried.ensures

@@ -1,29 +1,32 @@
-use Rattle.erd_shown.proofs.Common.{sym, ap, ◌∙◌, find, view, option_copied, option_cmp, is_eq, key_cmp, elections, arith, at_low, drop_all}
-use Rattle.erd_shown.proofs.KeysFound.{election_here, election_later, has_given_key}
+use Rattle.erd_shown.proofs.Common.{◌≡◌, sym, ap, subst, rules, length, slice_get, get_or, view, option_copied, elections, IsAccepted}
+use Rattle.std.specs.Prelude.{Ok, Err}
+use Rattle.std.specs.List.Sorted.{IsBinarySearchResult, IsSearchInRange}
+use Rattle.std.proofs.lemmas.Fn.{always_returns_same}
+use Rattle.erd_meaning.specs.Records.{election_with_key}
+use Rattle.erd_shown.proofs.ElectionsFound.{order_at, places, searched}
 use Rattle.erd_shown.proofs.side_values.key_places.place_of_election.Goals as goal
 
-pub loop-index-preserved : goal.loop-index-preserved
-loop-index-preserved c =
+pub returns-in-Ok : goal.returns-in-Ok
+returns-in-Ok c =
     let π = c.args.report.now.prefer in
     let t = view c.args.report.now.tree in
     let k = option_copied c.args.key in
-    let i = c.loop-index.index in
-    let e = at_low (elections t) i (omega (arith, c.loop-index-test.true, c.election_count-index-end.ensures)) in
-    election_later π t k i c.is_one_key.result (c.is_one_key.ensures ∙ ap (λ o. is_eq (option_cmp key_cmp o k)) c.election_key.ensures) e.0 e.1
-    c.if-is_one_key.false c.loop-index.invariant
+    let rises = c.rising_elections-rising.ensures in
+    let r = Ok c.in-Ok.index in
+    let accepted : IsAccepted π t = subst (IsAccepted π) (ap view c.tree-tree.ensures.tree) c.tree-tree.ensures.accepted in
+    let by_key = c.in-Ok.ensures.position (order_at π t k) (always_returns_same _ _ _ (λ a r f called. search rules)) in
+    subst (λ ps. slice_get (elections t) (get_or ps c.in-Ok.index 0) ≡ election_with_key π t k) (sym rises)
+    (searched π t accepted k r (subst (λ ps. IsSearchInRange r (length ps)) rises c.in-Ok.ensures.bound)
+    (subst (λ ps. IsBinarySearchResult (order_at π t k) ps r) rises by_key))
 
-pub returns-then-is_one_key : goal.returns-then-is_one_key
-returns-then-is_one_key c =
+pub returns-in-Err : goal.returns-in-Err
+returns-in-Err c =
     let π = c.args.report.now.prefer in
     let t = view c.args.report.now.tree in
     let k = option_copied c.args.key in
-    let i = c.loop-index.index in
-    let e = at_low (elections t) i (omega (arith, c.loop-index-test.true, c.election_count-index-end.ensures)) in
-    election_here π t k i c.is_one_key.result (c.is_one_key.ensures ∙ ap (λ o. is_eq (option_cmp key_cmp o k)) c.election_key.ensures) e.0 e.1
-    c.if-is_one_key.true c.loop-index.invariant
-
-pub returns : goal.returns
-returns c =
-    let all = elections (view c.args.report.now.tree) in
-    sym (c.loop-index.invariant ∙ ap (find (has_given_key c.args.report.now.prefer (option_copied c.args.key)))
-    (drop_all c.loop-index.index all (omega (arith, c.loop-index-test.false, c.election_count-index-end.ensures))))
+    let rises = c.rising_elections-rising.ensures in
+    let r = Err c.in-Err.field-0 in
+    let accepted : IsAccepted π t = subst (IsAccepted π) (ap view c.tree-tree.ensures.tree) c.tree-tree.ensures.accepted in
+    let by_key = c.in-Err.ensures.position (order_at π t k) (always_returns_same _ _ _ (λ a r f called. search rules)) in
+    searched π t accepted k r (subst (λ ps. IsSearchInRange r (length ps)) rises c.in-Err.ensures.bound)
+    (subst (λ ps. IsBinarySearchResult (order_at π t k) ps r) rises by_key)

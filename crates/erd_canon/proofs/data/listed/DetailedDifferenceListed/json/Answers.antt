@@ -5,7 +5,8 @@ use Rattle.erd_canon.proofs.data.listed.DetailedDifferenceListed.json.Goals as g
 
 pub returns-clause-text : goal.returns-clause-text
 returns-clause-text c =
-    IfOk-weaker c.to_string.result _ _ (λ text is. is (ap has_float c.in_ok-to_value.ensures ∙ (detailed_value c.args.self.now).whole) ∙ ap compact_text c.in_ok-to_value.ensures) c.to_string.ensures.text
+    IfOk-weaker c.to_string.result _ _ (λ text is. is (ap has_float c.in_ok-to_value.ensures ∙ (detailed_value c.args.self.now).whole)
+    ∙ ap compact_text c.in_ok-to_value.ensures) c.to_string.ensures.text
 
 pub returns-clause-fits : goal.returns-clause-fits
 returns-clause-fits c = always c.to_string.result _ (detailed_value c.args.self.now).fits

@@ -4,4 +4,5 @@ use Rattle.erd_canon.proofs.data.listed.FaultListed.json.Goals as goal
 
 pub returns-clause-text : goal.returns-clause-text
 returns-clause-text c =
-    IfOk-weaker c.to_string.result _ _ (λ text is. is (ap has_float c.in_ok-fault_value.ensures.value ∙ fault_whole c.args.self.now) ∙ ap compact_text c.in_ok-fault_value.ensures.value) c.to_string.ensures.text
+    IfOk-weaker c.to_string.result _ _ (λ text is. is (ap has_float c.in_ok-fault_value.ensures.value ∙ fault_whole c.args.self.now)
+    ∙ ap compact_text c.in_ok-fault_value.ensures.value) c.to_string.ensures.text

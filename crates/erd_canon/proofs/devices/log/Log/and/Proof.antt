@@ -1,5 +1,9 @@
 -- The log with one more pair is picked. The function reads no parameter, and makes a struct whose only field owns nothing.
-use Rattle.erd_canon.proofs.Common.{List, [], ◌∷◌, ◌++◌, refl, RattleType, owns, owned, nothing, vptr, Val, Ura, ‵, raw, ◌⊛◌, prop, !, ◌$◌, move, keep, split, fsplit, fjoin, feq_l, regoal, suffices, done, qed, ◌∵◌, Logic, Fn, inst_fn, SProp, ent, Memory, Routine, Calls, Loops, WpFn, Tables, Fun, WpFn-mono, agg, enter, returns, and_then, no_more, alloc_all, pass_all, free_all, look_at, get, sets, Is, param, plain, types_at, makes, Clauses, Ended, closing, alive, Meets, triple_of, entered, says, Stays, stay_dropped, walk_of, ends_at, walk_Meets, Goes-dropped}
+use Rattle.erd_canon.proofs.Common.{List, [], ◌∷◌, ◌++◌, refl, RattleType, owns, owned, nothing, vptr, Val, Ura, ‵, raw, ◌⊛◌, prop, !, ◌$◌, move, keep, split}
+use Rattle.erd_canon.proofs.Common.{fsplit, fjoin, feq_l, regoal, suffices, done, qed, ◌∵◌, Logic, Fn, inst_fn, SProp, ent, Memory, Routine, Calls, Loops, WpFn}
+use Rattle.erd_canon.proofs.Common.{Tables, Fun, WpFn-mono, agg, enter, returns, and_then, no_more, alloc_all, pass_all, free_all, look_at, get, sets, Is}
+use Rattle.erd_canon.proofs.Common.{param, plain, types_at, makes, Clauses, Ended, closing, alive, Meets, triple_of, entered, says, Stays, stay_dropped}
+use Rattle.erd_canon.proofs.Common.{walk_of, ends_at, walk_Meets, Goes-dropped}
 use contract.Running.{tables, tables_of}
 use types.Kit.{drop}
 use denote.Exit.{yes}
@@ -41,7 +45,8 @@ module _ (A B : RattleType) where
           let vss = z.0.4 in
           let made : (Log.the_row (param 0 A) (param 1 B)).Denot =
           record { of = record {}; items = a.0.now.items ++ (a.1.0.now, a.1.1.0.now) ∷ [] } in
-          qed 𝓛 ((raw (alive 𝓛 ended.signature z.0.0 z.0.1) ⊛ ‵ (owns (types_at ended.signature.params z.0.0) a vss)) ∷ raw ((held z.0.0 a).requires z.1) ∷ []) ∵
+          qed 𝓛 ((raw (alive 𝓛 ended.signature z.0.0 z.0.1) ⊛ ‵ (owns (types_at ended.signature.params z.0.0) a vss)) ∷ raw ((held z.0.0 a).requires z.1) ∷ [])
+          ∵
           keep ! (0 ∷ []) $ split ! $ move ! (1 ∷ []) $
           fsplit ! $ fsplit ! $ feq_l ! (λ is₀. drop ! $ fsplit ! $ fsplit ! $ feq_l ! (λ is₁. drop ! $ fsplit ! $ fsplit ! $ feq_l ! (λ is₂. drop ! $ drop ! $
           let p = vptr a.0.ref_ptr.0 a.0.ref_ptr.1 in
@@ -53,7 +58,8 @@ module _ (A B : RattleType) where
           enter ! C Λ function (p ∷ q ∷ r ∷ []) Post $ alloc_all ! (λ l. pass_all ! refl ((tt, tt), ((tt, tt), ((tt, tt), tt))) $
           sets ! (agg ! (no_more !)) refl (tt, tt) $
           sets ! (agg ! (and_then ! (get ! refl) (no_more !))) refl (tt, (tt, tt)) $
-          nothing ! $ owned ! (Mark.the_row (pair A B)) (Is (Mark.the_row (pair A B))) (makes (Mark.the_type (pair A B)) tt 𝓛) (record {}) (none ∷ []) (tt, (refl, tt)) $
+          nothing ! $ owned ! (Mark.the_row (pair A B)) (Is (Mark.the_row (pair A B))) (makes (Mark.the_type (pair A B)) tt 𝓛) (record {})
+          (none ∷ []) (tt, (refl, tt)) $
           one_made ! (Mark.the_row (pair A B)) (record {}) none $ fjoin ! $
           returns ! (look_at ! 0 refl) $ free_all ! refl $
           suffices ! _ (ends_at 𝓛 ended stayed held z (one none) made (tt, (tt, (tt, tt))) (tt, (tt, (tt, tt)))) $ says ! refl $

@@ -1,0 +1,4 @@
+pub mod CallExamples
+mod PieceCallExamples
+mod LineCallExamples
+mod PrepareCallExamples
