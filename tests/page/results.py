@@ -211,7 +211,7 @@ class Result:
                 found.append(say('notJson.heading', name=it.name))
         if all(it.form is not None for it in self.answers):
             found += [say('card.heading')] if len(self.answers) == 1 else []
-            found.append(say('ballots.heading'))
+            found += [say('ballots.heading')] if self.compared != 'no memory' else []
         return found + [self.record_heading()]
 
     def notices(self):

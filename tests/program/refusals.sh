@@ -95,7 +95,7 @@ program 'what each step would do' "$work/empty" 0 "$work/listed" '' prepare --li
 program 'an unknown step' "$work/empty" 3 "$work/empty" $'unknown step\n' prepare --steps nulls,nosuch "$work/nulled"
 printf 'ballot ["local-level","","S1"]: 3 lines\n' > "$work/ballots"
 program 'ballots' "$work/empty" 0 "$work/ballots" '' ballots examples/small-ballot.json
-printf 'ballot ["local-level","","S1"]: differs\n' > "$work/differs"
+printf 'ballot ["local-level","","S1"]: differs\n  changed contest ["local-level","","C1"]\n' > "$work/differs"
 program 'a ballot with other words' "$work/empty" 1 "$work/differs" '' ballots examples/small-ballot.json "$work/changed"
 for name in \
     worked::refused_two_vendors \

@@ -57,6 +57,12 @@ const ROWS: &[Row] = &[
     ("erd compare left right", 3, NOTHING, "cannot open\nleft\n"),
 ];
 
+// What is left of a report without a member, and the line about it.
+const LEFT: &str = concat!(
+    ": missing member @type\nreason 2 (missing member): steps that may fix it: class-names; otherwise ask the vendor: ",
+    "Write the member that is missing. The standard requires it.\n",
+);
+
 const LATER_ROWS: &[Row] = &[
     ("erd ballots one", 0, NOTHING, NOTHING),
     ("erd ballots --json one", 0, "[]\n", NOTHING),
@@ -78,7 +84,7 @@ const LATER_ROWS: &[Row] = &[
         REPORT,
         NOTHING,
     ),
-    ("erd prepare empty", 1, "{}", ": missing member @type\n"),
+    ("erd prepare empty", 1, "{}", LEFT),
     ("erd prepare text", 2, NOTHING, "not JSON\n"),
     ("erd prepare --list text", 2, NOTHING, "not JSON\n"),
     ("erd prepare --report text", 2, NOTHING, "not JSON\n"),
