@@ -101,8 +101,7 @@ async function tryTwo(name, files, prefer) {
     if (differences !== null && !comparison.same) {
         const listed = linesOf(textOf(differences));
         const { count, entries } = judgement.begun({ most: 1 }, quiet);
-        // The classes of an object are not in the list, so it begins before one of another class.
-        equal(`${name}: the list begins`, [count, entries[0]?.line ?? ''], [listed.length, listed[0].endsWith('other class') ? '' : listed[0]]);
+        equal(`${name}: the list begins`, [count, entries[0].line], [listed.length, listed[0]]);
     }
 }
 
@@ -124,9 +123,9 @@ const pair = judgementOf([one, changed]);
 const verdict = await pair.verdict(quiet);
 equal('a changed name and number: the verdict', [verdict.comparison.same, verdict.comparison.first.how], [false, 'member']);
 const list = pair.list({}, quiet);
-const members = pair.more({ group: 'all', from: 0, count: 9 }, quiet).map(({ part, member, rows }) => [part, member,
+const members = pair.more({ from: 0, count: 9 }, quiet).map(({ part, member, rows }) => [part, member,
     ...rows.filter(({ same }) => same === false).map(({ left, right }) => `${left.text} / ${right.text}`)]);
-equal('a changed name and number: the list', [list.count, list.listed, list.counts], [2, 2, { own: 2, caused: 0 }]);
+equal('a changed name and number: the list', [list.count, list.listed, list.kinds.map(({ count }) => count)], [2, 2, [1, 1]]);
 equal('a changed name and number: the values', members.map(([part, member]) => `${part} ${member}`), ['candidate BallotName', 'contest VotesAllowed']);
 equal('a changed name: both values', members[0].slice(2), ['“Ingrith Sablewood” / “Ingrid Sablewood”']);
 equal('a changed number: both values', members[1].slice(2), ['1 / 2']);

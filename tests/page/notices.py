@@ -2,9 +2,8 @@
 import json
 
 import answers
-from session import EXAMPLES, SMALL
+from session import SMALL
 
-COUNTY = EXAMPLES / 'county.vendor-a.json'
 MANY = 11_000
 ENVELOPE = ['Format', 'GeneratedDate', 'Issuer', 'IssuerAbbreviation', 'VendorApplicationId', 'Notes', 'SequenceStart', 'SequenceEnd',
             'ExternalIdentifier']
@@ -22,7 +21,6 @@ def run(session):
     own_view(session)
     many_selections(session)
     long_names(session)
-    renamed(session)
     other_type(session)
     worst_type(session)
     type_of_many(session)
@@ -155,7 +153,7 @@ def many_selections(session):
     """More selections that differ than the page shows: it says how many more there are, in the record too."""
     session.judged(with_selections(session, 'left.json', 130, 1), with_selections(session, 'right.json', 130, 2))
     shown = session.texts('.inside > li')
-    session.equal('many selections: the heading', session.texts('.inside-heading'), [answers.say('inside.heading', count=130)])
+    session.equal('many selections: the heading', session.texts('.inside-heading'), [answers.say('inside.heading.contest', count=130)])
     session.equal('many selections: the first and the last', [shown[0], *shown[-2:]],
                   [answers.say('inside.member', selection=f'write-in (place {number}, fips {number})', member='Note') for number in (0, 99)]
                   + [answers.say('inside.more', count=30)])
@@ -168,18 +166,6 @@ def long_names(session):
     session.judged(*(with_selections(session, name, 4, note, 'x' * 300_000) for name, note in (('left.json', 1), ('right.json', 2))))
     session.equal('long names: they are not listed', session.texts('[aria-labelledby="first-difference"] > .note'), [answers.say('inside.notTold')])
     session.equal('long names: nor in the record', session.texts('[data-filed] li > div')[:1], [answers.say('inside.notTold')])
-
-
-def renamed(session):
-    """A changed identifier: the object is found again, and what follows from it is folded."""
-    text = COUNTY.read_text(encoding='utf-8').replace('"K-12"', '"K-99"')
-    session.judged(COUNTY, session.file('renamed.json', text))
-    session.equal('another identifier: the pair', session.texts('.pairs li'),
-                  ['Candidate “Ingrith Sablewood”: local-level K-12 in the first file, local-level K-99 in the second'])
-    session.equal('another identifier: what a voter sees', session.text('.seen h3 + p'), answers.say('seen.alike', count=3))
-    session.equal('another identifier: nothing else differs', session.texts('.others > .differences > li'), [])
-    session.browser.script("document.querySelector('.pairs details').open = true")
-    session.becomes('another identifier: what follows', lambda: len(session.texts('.pairs .differences > li')) > 2, True)
 
 
 def other_type(session):

@@ -22,7 +22,7 @@ const PARTS = ['verdict', 'notices', 'copies', 'seen', 'sentences', 'offer', 'di
 /** The bytes of a canonical form from which on the card is made only when it is opened. */
 const LARGE = 10_000_000;
 
-/** How many differences are shown before their values are known, where there are at least so many that this takes time. */
+/** How many differences are shown before the names of objects are known, where there are at least so many that this takes time. */
 const FIRST_SHOWN = 50;
 const MANY = 1000;
 
@@ -63,7 +63,7 @@ export class Result {
         return this.verdictShown.title;
     }
 
-    // How many differences there are, and of very many the first ones, before anything is known of their values.
+    // How many differences there are, and of very many the first ones, before the names of objects are known.
     async showBeginning() {
         const begun = await this.client.ask('begun', { most: FIRST_SHOWN }, this.tell);
         if (this.isCurrent() && begun?.count > 1) {
@@ -224,7 +224,7 @@ export class Result {
     // What the record has of the differences or the faults.
     async findings() {
         if (this.listed) {
-            const entries = await this.client.ask('more', { group: 'filed', from: 0, count: MOST_FILED });
+            const entries = await this.client.ask('more', { isFiled: true, from: 0, count: MOST_FILED });
             return differencesFiled(entries, this.listed, this.names);
         }
         const refused = this.answer.files.map((file, index) => ({ ...file, index })).filter(({ outcome }) => outcome === 'refused');
