@@ -139,8 +139,8 @@ function report(change = () => {}) {
 }
 
 const meaning = report();
-const { names } = meaning;
-const textsOf = (name, value) => linesOf(name, value, names).map(({ text }) => text);
+const { called } = meaning;
+const textsOf = (name, value) => linesOf(name, value, called).map(({ text }) => text);
 const K = (code) => ['local-level', '', code];
 const code = { '@type': 'ElectionResults.ExternalIdentifier', Type: 'other', OtherType: 'ward', Value: '7' };
 const VALUES = {
@@ -164,7 +164,7 @@ const VALUES = {
 };
 Object.entries(VALUES).forEach(([what, [name, value, wanted]]) => equal(`lines of ${what}`, textsOf(name, value), wanted));
 equal('lines of one key are alike, whatever the object is called', [report(), report((made) => { made.Party[0].Name = 'Azure'; })]
-    .map((one) => linesOf('PartyId', K('P1'), one.names)[0].like).map((like, _at, [first]) => like === first), [true, true]);
+    .map((one) => linesOf('PartyId', K('P1'), one.called)[0].like).map((like, _at, [first]) => like === first), [true, true]);
 equal('the title of a person', meaning.thing('person', K('N1')).title, 'Ann Ash');
 
 const shown = ({ mark, lines, selections = [] }) => [mark, lines.map(({ role, texts }) => [role, ...texts.map(({ lang, pieces }) => lang
@@ -231,7 +231,7 @@ equal('a ballot with all the words', one.styles({ words: 'east WEST', group: 'al
 
 // ---- differences of the proved list
 
-const both = [names, names];
+const both = [called, called];
 const of = (member, left, right, more = {}) => ({ part: 'contest', key: K('C1'), how: 'member', member, ...more,
     values: { ...(left === undefined ? {} : { left }), ...(right === undefined ? {} : { right }) } });
 const rowsShown = (difference) => rowsOfDifference(difference, both).rows.map(({ left, right, same, equal: count }) => (

@@ -79,7 +79,7 @@ export class Meaning {
     }
 
     /** What objects are called, and their classes. */
-    get names() {
+    get called() {
         return (part, key) => {
             const thing = this.thing(part, key);
             return thing === undefined ? undefined : { title: thing.title, className: thing.className };
