@@ -267,6 +267,8 @@ equal('what differs on a ballot, with its words', onBallot(BELOW), { part: 'styl
     { how: 'moved', name: 'Contest “Governor” (local-level C1)' },
     { how: 'added', name: 'Selection: Candidate “Ann” (local-level K1) + Candidate “Bo” (local-level K2)' },
     { how: 'moved', name: 'Selection: write-in (place 18446744073709551615, local-level W 1)' }] });
+equal('a line with a character that ends lines elsewhere', onBallot('  added contest ["local-level","","a\u2028b"]\n').entries,
+    [{ how: 'added', name: 'local-level a\u2028b' }]);
 equal('a ballot whose lines are the same', onBallot(''), { part: 'style', count: 0, entries: [] });
 equal('a ballot of which nothing is known', onBallot(null) ?? 'none', 'none');
 const lengthyBallot = onBallot('  changed units\n'.repeat(101));

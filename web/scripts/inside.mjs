@@ -32,7 +32,7 @@ function toldOf(part, all, entryOf) {
 
 // A line of the proved code on a ballot: how something differs, what it is, and its key or its name.
 function entryOfLine(line, called) {
-    const [, how, what, text] = /^ *(\S+) (\S+) ?(.*)$/.exec(line);
+    const [, how, what, text] = /^ *(\S+) (\S+) ?(.*)$/s.exec(line);
     if (Object.hasOwn(VOTERS, what)) {
         return { how, name: say(`parts.${VOTERS[what]}`) };
     }
