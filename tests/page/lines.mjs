@@ -1,10 +1,10 @@
 // Tries what the page tells of the lines of a ballot, on files in which the same words stand in several contests: what was lost is told
 // as lost, in its contest, and nothing is told as moved that stands where it stood.
-import { BallotAnswers } from '../../web/scripts/ballot_answers.mjs';
 import { Meaning } from '../../web/scripts/meaning.mjs';
 import { orderedChanges } from '../../web/scripts/order_changes.mjs';
 import { rowsOfDifference } from '../../web/scripts/rows.mjs';
 import { headsOf, shownRows } from '../../web/scripts/shown_rows.mjs';
+import { ballotsOf } from './answered.mjs';
 import { counts, equal } from './counted.mjs';
 import { identified, typed } from './made.mjs';
 
@@ -51,7 +51,7 @@ function told(left, right) {
 
 // The same from the view of the ballot.
 function viewed(left, right) {
-    const { items } = new BallotAnswers([left, right]).ballot({ key: JSON.stringify(['local-level', '', 'S1']) });
+    const { items } = ballotsOf(left.report, right.report).ballot({ key: JSON.stringify(['local-level', '', 'S1']) });
     const wordsOf = ({ mark, from, to }) => (mark === 'moved' ? `${from} to ${to}` : mark);
     const nameOf = ({ lines }) => lines[0].texts[0].pieces.map(({ text }) => text).join('').replace('Write-in', 'write-in');
     return items.flatMap((item) => [...(item.mark === '' ? [] : [`${nameOf(item)} ${wordsOf(item)}`]),

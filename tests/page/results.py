@@ -226,8 +226,8 @@ class Result:
         return left ^ right
 
     def on_ballots(self):
-        """The heading of what differs on the ballots, which stands there if what they show differs."""
-        return [self.session.text('#on-ballots') or 'what differs on the ballots'] if self.look_different() else []
+        """The heading of what differs on the ballots, which stands there if they differ."""
+        return [self.session.text('#on-ballots') or 'what differs on the ballots'] if self.differing()[0] > 0 else []
 
     def seen(self):
         """The box on what a voter sees: whether the ballots differ, what they leave out by the table of the profile, and what no ballot shows."""

@@ -143,10 +143,10 @@ const LISTS = {
 
 const FINDING = { kind: 'contest', subject: 'Mayor', count: 2, all: 5 };
 const FINDINGS = [
-    { ...FINDING, what: 'removed' }, { ...FINDING, what: 'added' }, { ...FINDING, what: 'moved', from: 1, to: 3 },
-    { ...FINDING, subject: '', kind: 'header', what: 'order' },
+    { ...FINDING, what: 'removed' }, { ...FINDING, what: 'added' }, { ...FINDING, what: 'moved' },
+    { ...FINDING, subject: '', kind: 'header', what: 'changed' }, { ...FINDING, what: 'renamed' },
     { ...FINDING, what: 'choice.removed', choice: 'Ann' }, { ...FINDING, what: 'choice.added', choice: 'Ann' },
-    { ...FINDING, what: 'choice.moved', choice: 'Ann', from: 2, to: 1 },
+    { ...FINDING, what: 'choice.moved', choice: 'Ann' }, { ...FINDING, what: 'choice.renamed', choice: 'Ann' },
     { ...FINDING, what: 'choice.words', choice: 'Ann', role: 'party', left: 'Blue', right: '' },
     { ...FINDING, what: 'words', role: 'votes', left: '1', right: '2' },
     { ...FINDING, what: 'words', role: 'FullText', left: '', right: 'x' },
