@@ -71,13 +71,9 @@ export class BallotAnswers {
 
     // What a ballot style is found by: what it is called, and the names, numbers and codes of its units and of those around them.
     wordsOf({ key, code, units, parties }) {
-        this.keptWords ??= new Map();
-        this.around ??= this.meanings.map((meaning) => new UnitsAround(meaning));
-        if (!this.keptWords.has(key)) {
-            const further = this.told.flatMap((heads, side) => (heads.has(key) ? this.around[side].wordsOf(heads.get(key).units) : []));
-            this.keptWords.set(key, [...new Set([code, ...units, ...parties, ...further])]);
-        }
-        return this.keptWords.get(key);
+        this.around ??= this.meanings.map(aroundOf);
+        const around = this.told.flatMap((heads, side) => unitsAround(this.meanings[side], this.around[side], heads.get(key)?.units ?? []));
+        return [code, ...units, ...parties, ...around.flatMap(wordsOfUnit)];
     }
 
     // The head of each style, with whether it differs. One that differs may have the same words here: other identifiers have them, or something
@@ -143,19 +139,15 @@ export class BallotAnswers {
     }
 }
 
-// The words of units, and of the units around them.
-class UnitsAround {
-    constructor(meaning) {
-        this.meaning = meaning;
-        this.around = aroundOf(meaning);
-    }
+// The units with these keys, and all that are around them.
+function unitsAround(meaning, around, keys) {
+    const found = new Set(keys.map((key) => meaning.thing('unit', key)));
+    found.forEach((unit) => around.get(unit)?.forEach((outer) => found.add(outer)));
+    return [...found];
+}
 
-    wordsOf(keys) {
-        const found = new Set(keys.map((key) => this.meaning.thing('unit', key)));
-        found.forEach((unit) => (this.around.get(unit) ?? []).forEach((outer) => found.add(outer)));
-        return [...found].flatMap(({ title, object: { Number: number, ExternalIdentifier } }) => [
-            title ?? '', ...(number === undefined ? [] : [String(number)]), ...ExternalIdentifier.map(({ Value }) => Value)]);
-    }
+function wordsOfUnit({ title, object: { Number: number = '', ExternalIdentifier } }) {
+    return [title ?? '', String(number), ...ExternalIdentifier.map(({ Value }) => Value)];
 }
 
 // Items from a place on, as many as a reader is shown at once. A contest with more lines than that is shown in parts too.
@@ -196,14 +188,6 @@ function languagesIn(value) {
     if (value === null || typeof value !== 'object') {
         return [];
     }
-    const languages = new Set();
-    const waiting = [value];
-    while (waiting.length > 0) {
-        const one = waiting.pop();
-        if (one['@type'] === LANGUAGE_STRING && typeof one.Language === 'string') {
-            languages.add(one.Language);
-        }
-        waiting.push(...Object.values(one).filter((inner) => inner !== null && typeof inner === 'object'));
-    }
-    return [...languages];
+    const own = value['@type'] === LANGUAGE_STRING && typeof value.Language === 'string' ? [value.Language] : [];
+    return [...own, ...Object.values(value).flatMap(languagesIn)];
 }
