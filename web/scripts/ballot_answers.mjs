@@ -4,7 +4,7 @@ import { orderOfKeys, textOfKey } from '../../bindings/js/lib/order.mjs';
 import { besideItself, BothBallots, mergedLines } from './ballot_changes.mjs';
 import { BallotThings, haveSameWords } from './ballot_things.mjs';
 import { BallotWords } from './ballots.mjs';
-import { aroundOf } from './overview.mjs';
+import { aroundOf, unitsAround } from './overview.mjs';
 import { hasWords } from './search.mjs';
 import { shortened } from './visible.mjs';
 
@@ -72,8 +72,9 @@ export class BallotAnswers {
     // What a ballot style is found by: what it is called, and the names, numbers and codes of its units and of those around them.
     wordsOf({ key, code, units, parties }) {
         this.around ??= this.meanings.map(aroundOf);
-        const around = this.told.flatMap((heads, side) => unitsAround(this.meanings[side], this.around[side], heads.get(key)?.units ?? []));
-        return [code, ...units, ...parties, ...around.flatMap(wordsOfUnit)];
+        const found = this.told.flatMap((heads, side) => unitsAround((heads.get(key)?.units ?? []).map((unit) => this.meanings[side].thing('unit', unit)),
+            this.around[side]));
+        return [code, ...units, ...parties, ...found.flatMap(wordsOfUnit)];
     }
 
     // The head of each style, with whether it differs. One that differs may have the same words here: other identifiers have them, or something
@@ -137,13 +138,6 @@ export class BallotAnswers {
         const told = there.length === 2 ? this.ask('erd_ballots_beside', there, ...places) : besideItself(this.ask('erd_ballot', there, places[there[0]]).lines);
         return new BothBallots(told, [this.words[there[0]], this.words[there.at(-1)]]);
     }
-}
-
-// The units with these keys, and all that are around them.
-function unitsAround(meaning, around, keys) {
-    const found = new Set(keys.map((key) => meaning.thing('unit', key)));
-    found.forEach((unit) => around.get(unit)?.forEach((outer) => found.add(outer)));
-    return [...found];
 }
 
 function wordsOfUnit({ title, object: { Number: number = '', ExternalIdentifier } }) {

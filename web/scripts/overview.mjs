@@ -89,17 +89,20 @@ function stylesByUnit(meaning, heads) {
     return styles;
 }
 
-// The ballot styles of a unit and of all that is around it.
-function stylesOf(unit, around, styles) {
-    const found = new Set();
-    const seen = new Set([unit]);
-    for (const one of seen) {
-        (styles.get(one) ?? []).slice(0, MOST_AROUND).forEach((style) => found.add(style));
-        if (seen.size < MOST_AROUND) {
-            (around.get(one) ?? []).forEach((outer) => seen.add(outer));
+/** Units, and what is around them. */
+export function unitsAround(units, around) {
+    const found = new Set(units);
+    for (const one of found) {
+        if (found.size < units.length + MOST_AROUND) {
+            around.get(one)?.forEach((outer) => found.add(outer));
         }
     }
     return [...found];
+}
+
+// The ballot styles of a unit and of all that is around it.
+function stylesOf(unit, around, styles) {
+    return [...new Set(unitsAround([unit], around).flatMap((one) => (styles.get(one) ?? []).slice(0, MOST_AROUND)))];
 }
 
 // The contests that no ballot has, by name.
