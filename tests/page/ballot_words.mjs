@@ -1,7 +1,7 @@
 // Tries that the page's ballots have what a voter needs, on one small report that is written out here: each statement on a
 // measure, each party of a candidate, how votes are counted, and what only one file says of an order. One line for each case
 // that fails; at the end stand the counts.
-import { leftOutOf, unseenOf } from '../../web/scripts/seen.mjs';
+import { notOnBallots } from '../../web/scripts/difference_groups.mjs';
 import { ballotsOf } from './answered.mjs';
 import { counts, equal } from './counted.mjs';
 import { identified, label, typed } from './made.mjs';
@@ -119,25 +119,15 @@ for (const [name, at, role] of LACKING) {
     equal(`without ${name}: it is marked`, line.texts.flatMap(({ pieces }) => pieces.map(({ mark }) => mark)), ['removed']);
 }
 
-// A difference that the ballots show is not told as left out, and each other one that a voter may see is.
-const ON_BALLOTS = {
-    contest: ['Name', 'BallotTitle', 'BallotSubTitle', 'VotesAllowed', 'VoteVariation', 'ContestSelection', 'HasRotation', 'ProStatement', 'ConStatement', 'FullText'],
-    candidate: ['BallotName', 'PartyId', 'IsIncumbent'], person: ['Profession'], party: ['Name'], header: ['Name'], style: ['OrderedContent', 'PartyIds'], election: ['Name', 'StartDate'],
-};
-const NOT_ON_BALLOTS = { contest: ['NumberElected', 'OfficeIds'], candidate: ['CampaignSlogan'], person: ['FullName'], office: ['Name'], party: ['Color'] };
-const leftOut = (part, member, word, isShown, { isHidden = false, isCaused = false, alike = 0 } = {}) => leftOutOf(
-    [{ part, how: 'member', member, word, isCaused, isHidden }], { differing: isShown ? 1 : 0, alike }).length;
-for (const [table, told] of [[ON_BALLOTS, 0], [NOT_ON_BALLOTS, 1]]) {
-    for (const [part, member] of Object.entries(table).flatMap(([name, members]) => members.map((one) => [name, one]))) {
-        equal(`left out of ballots that differ: ${part} ${member}`, [leftOut(part, member, 'seen', true), leftOut(part, member, 'in doubt', true)], [told, told]);
-        equal(`left out of an object that no ballot shows: ${part} ${member}`, leftOut(part, member, 'seen', true, { isHidden: true }), 1);
-        equal(`left out of ballots that are the same: ${part} ${member}`, [leftOut(part, member, 'seen', false), leftOut(part, member, 'unseen', false),
-            leftOut(part, member, 'in doubt', false, { isCaused: true })], [1, 0, 1]);
-        equal(`left out of ballots that look the same: ${part} ${member}`, [leftOut(part, member, 'seen', true, { alike: 1 }),
-            leftOut(part, member, 'in doubt', true, { alike: 1, isCaused: true })], [1, told]);
-    }
+// Where ballots differ, what a voter sees is on them, but for what differs in an election. What is in doubt is told beside them, and where no
+// ballot differs all that a voter may see is.
+const entry = (part, word, member = 'Name') => ({ part, how: 'member', member, word });
+const leftOut = (part, word, differing) => notOnBallots([entry(part, word)], differing).leftOut.length;
+const LEFT_OUT = [['contest', 'seen', 0, 1], ['contest', 'in doubt', 1, 1], ['unit', 'in doubt', 1, 1], ['election', 'seen', 1, 1], ['party', 'unseen', 0, 0]];
+for (const [part, word, beside, alone] of LEFT_OUT) {
+    equal(`left out of ballots: ${part}, ${word}`, [leftOut(part, word, 2), leftOut(part, word, 0)], [beside, alone]);
 }
-const unseen = unseenOf([['unseen', 'IsDistricted'], ['seen', 'Name'], ['unseen', 'IsMailOnly'], ['unseen', 'IsMailOnly']]
-    .map(([word, member]) => ({ part: 'unit', how: 'member', member, word })));
-equal('what no ballot shows', unseen.map(({ member, count }) => [member, count]), [['IsMailOnly', 2], ['IsDistricted', 1]]);
+const { noBallot, unseen } = notOnBallots([['unseen', 'IsDistricted'], ['seen', 'Name'], ['unseen', 'IsMailOnly'], ['unseen', 'IsMailOnly']]
+    .map(([word, member]) => entry('unit', word, member)), 1);
+equal('what no ballot shows', [unseen, noBallot.map(({ member, count }) => [member, count])], [3, [['IsMailOnly', 2], ['IsDistricted', 1]]]);
 counts();

@@ -114,8 +114,7 @@ async function tryTwo(name, files, prefer) {
     if (differences !== null && !comparison.same) {
         const listed = linesOf(textOf(differences));
         const { count, entries } = judgement.begun({ most: 1 }, quiet);
-        // The classes of an object are not in the list, so it begins before one of another class.
-        equal(`${name}: the list begins`, [count, entries[0]?.line ?? ''], [listed.length, listed[0].endsWith('other class') ? '' : listed[0]]);
+        equal(`${name}: the list begins`, [count, entries[0].line], [listed.length, listed[0]]);
     }
 }
 
@@ -137,9 +136,9 @@ const pair = judgementOf([one, changed]);
 const verdict = await pair.verdict(quiet);
 equal('a changed name and number: the verdict', [verdict.comparison.same, verdict.comparison.first.how], [false, 'member']);
 const list = pair.list({}, quiet);
-const members = pair.more({ group: 'all', from: 0, count: 9 }, quiet).map(({ part, member, rows }) => [part, member,
+const members = pair.more({ from: 0, count: 9 }, quiet).map(({ part, member, rows }) => [part, member,
     ...rows.filter(({ same }) => same === false).map(({ left, right }) => `${left.text} / ${right.text}`)]);
-equal('a changed name and number: the list', [list.count, list.listed, list.counts], [2, 2, { own: 2, caused: 0 }]);
+equal('a changed name and number: the list', [list.count, list.listed, list.kinds.map(({ count }) => count)], [2, 2, [1, 1]]);
 equal('a changed name and number: the values', members.map(([part, member]) => `${part} ${member}`), ['candidate BallotName', 'contest VotesAllowed']);
 equal('a changed name: both values', members[0].slice(2), ['“Ingrith Sablewood” / “Ingrid Sablewood”']);
 equal('a changed number: both values', members[1].slice(2), ['1 / 2']);
@@ -147,21 +146,6 @@ const found = pair.someOnBallots({ words: '', from: 0, count: 9 }, quiet).entrie
 equal('a changed name and number: on the ballots', found.map(({ what, role, left, right }) => [what, role, left, right].join(' | ')).sort(),
     ['choice.words | name | Ingrith Sablewood | Ingrid Sablewood', 'words | votes | Vote for 1 | Vote for up to 2']);
 equal('a changed name and number: words find one', pair.someOnBallots({ words: 'ingrid', from: 0, count: 9 }, quiet).count, 1);
-
-// One vendor has codes of its own beside the others: without these, the files say the same. An object that has no other code keeps its own.
-const own = JSON.parse(textOf(one));
-const code = (Value) => ({ '@type': 'ElectionResults.ExternalIdentifier', Type: 'other', OtherType: 'vendor', Value });
-own.Party.forEach((party, at) => party.ExternalIdentifier.push(code(`P${at}`)));
-const alone = JSON.parse(JSON.stringify(own));
-alone.Header[0].ExternalIdentifier = [code('H')];
-// The header is another one then, and so is what each ballot that has it lists.
-const changes = 2 + own.Election[0].BallotStyle.filter((style) => JSON.stringify(style).includes(`"HeaderId":"${own.Header[0]['@id']}"`)).length;
-for (const [what, made, wanted] of [['other codes', own, [[['other vendor'], []], 0]], ['a code and no other', alone, [[['other vendor'], []], changes]]]) {
-    const view = judgementOf([Buffer.from(JSON.stringify(made)), two]);
-    await view.verdict(quiet);
-    const { types, count } = view.ownView({}, quiet);
-    equal(`without ${what}`, [types, count], wanted);
-}
 
 // What a file has, counted here by its arrays.
 const whole = judgementOf([one]);

@@ -4,18 +4,17 @@ import { existsSync, readdirSync, readFileSync } from 'node:fs';
 import { load } from '../../bindings/js/index.mjs';
 import { aligned } from '../../web/scripts/alignment.mjs';
 import { isUnchangedLine } from '../../web/scripts/ballot_changes.mjs';
-import { renamed, talliesOf } from '../../web/scripts/causes.mjs';
 import { csvOf } from '../../web/scripts/csv.mjs';
 import { whyNotJson } from '../../web/scripts/diagnosis.mjs';
 import { compactText, readExactly } from '../../bindings/js/lib/exact.mjs';
 import { excerptOf, Lines } from '../../web/scripts/excerpt.mjs';
 import { Meaning } from '../../web/scripts/meaning.mjs';
 import { kindsOf } from '../../web/scripts/fault_kinds.mjs';
+import { insideOf } from '../../web/scripts/inside.mjs';
 import { whyAlike } from '../../web/scripts/look_alikes.mjs';
 import { foundPlaces } from '../../web/scripts/places.mjs';
 import { rowsOfDifference } from '../../web/scripts/rows.mjs';
 import { wordOf } from '../../web/scripts/seen.mjs';
-import { insideOf } from '../../web/scripts/selection_names.mjs';
 import { codeOf } from '../../web/scripts/sums.mjs';
 import { mergedText, piecesOfBoth } from '../../web/scripts/text_changes.mjs';
 import { NotJson, Scanner } from '../../bindings/js/lib/scanner.mjs';
@@ -93,10 +92,14 @@ function tryPair(name, [left, right], prefer) {
     }
     const { differences } = erd.differences(left, right, { prefer, mostDifferences: null });
     equal(`${name}: the first difference`, differences[0]?.line ?? null, difference?.line ?? null);
-    const meanings = [left, right].map((bytes) => new Meaning(readExactly(erd.canonical(bytes, { prefer }).bytes), prefer));
+    const names = [left, right].map((bytes) => new Meaning(readExactly(erd.canonical(bytes, { prefer }).bytes), prefer).names);
+    const styles = outcome === 'same' ? [] : erd.toldOfBallots('erd_ballot_differences', [left, right], { prefer });
+    const below = new Map(styles.map((style) => [String(style.key), style.below]));
     for (const entry of differences) {
-        const { rows, there, classes } = rowsOfDifference(meanings, entry);
-        const isShown = entry.how === 'member' ? rows.some((row) => !row.same) || there[0] !== there[1] : classes[0] !== classes[1];
+        const { rows, there, classes } = rowsOfDifference(entry, names);
+        const isShown = entry.how !== 'member' ? classes[0] !== classes[1]
+            : rows === undefined ? insideOf(entry, names, (key) => below.get(String(key)) ?? '') !== undefined
+            : rows.some((row) => row.same === false) || there[0] !== there[1];
         equal(`${name}: both values of ${entry.line}`, isShown, true);
     }
 }
@@ -126,7 +129,7 @@ const exact = '{"__proto__":{"n":-9223372036854775808},"a":[18446744073709551615
 equal('exact numbers', compactText(readExactly(encoder.encode(exact))), exact);
 
 // Lines beside each other.
-const line = (text) => ({ text, like: text, indent: 0 });
+const line = (text) => ({ text, like: text });
 const rows = aligned(['a', 'b', 'c', 'd'].map(line), ['a', 'c', 'x', 'd'].map(line));
 equal('rows', rows.map(({ left, right, same }) => [left?.text ?? null, right?.text ?? null, same]),
     [['a', 'a', true], ['b', null, false], ['c', 'c', true], [null, 'x', false], ['d', 'd', true]]);
@@ -170,18 +173,8 @@ const wordsOf = [[{ part: 'contest', how: 'member', member: 'Name' }, 'seen'], [
     [{ part: 'contest', how: 'member', member: 'ElectionId' }, 'seen'], [{ part: 'person', how: 'only left' }, 'in doubt']];
 wordsOf.forEach(([difference, word]) => equal(`the word of ${JSON.stringify(difference)}`, wordOf(table, difference, 'Contest'), word));
 
-// One changed identifier: the object is found again, and all differences follow from it.
 const county = readFileSync(new URL('examples/county.canonical.json', ROOT), 'utf8');
 const meaningOf = (text) => new Meaning(readExactly(encoder.encode(text)), null);
-for (const [value, other] of [['K-12', 'K-99'], ['P-1', 'P-1x'], ['C-SHERIFF', 'C-0'], ['MEADOW', 'A']]) {
-    const texts = [county, county.replaceAll(`"Value":"${value}"`, `"Value":"${other}"`)];
-    const pair = texts.map(meaningOf);
-    const entries = erd.differences(...texts.map((text) => encoder.encode(text)), { mostDifferences: null }).differences;
-    const { pairs, isCaused } = renamed(pair, entries);
-    equal(`${value} under another identifier`, [pairs.map(({ keys }) => keys.map((key) => key[2])), isCaused.every(Boolean), entries.length > 2],
-        [[[value, other]], true, true]);
-    equal(`${value}: how many objects differ`, talliesOf(entries).filter((tally) => tally['only left'] === 1 && tally['only right'] === 1).length, 1);
-}
 
 // An object with two identifiers is found by the one that the proved code takes for its key: the least, by code points.
 const identifiersOf = (values) => values.map((Value) => ({ '@type': 'ElectionResults.ExternalIdentifier', Type: 'local-level', Value }));
@@ -199,23 +192,27 @@ const ofContest = { part: 'contest', key: ['local-level', '', 'C1'], how: 'membe
 const CANDIDATES = 'ElectionResults.CandidateSelection';
 const K12 = ['local-level', '', 'K-12'];
 const inTwo = [county, county.replaceAll('Ingrith', 'Ingrid')].map(meaningOf);
-const namesOf = (meanings, ...selections) => insideOf(meanings, { ...ofContest, selections }).entries.map(({ name }) => name);
-equal('the name of a selection, from its own side', namesOf(inTwo, ...['only left', 'only right', 'member'].map((how) => ({ how, name: [CANDIDATES, [K12], false, null, null, null] }))),
+const NO_NAMES = [() => undefined, () => undefined];
+const ofBoth = inTwo.map(({ names: some }) => some);
+const namesOf = (some, ...selections) => insideOf({ ...ofContest, selections }, some).entries.map(({ name }) => name);
+const ofCandidates = (how, keys, isWriteIn, order = null, identifier = null) => ({ how, name: [CANDIDATES, keys, isWriteIn, order, null, identifier] });
+equal('the name of a selection, from its own side', namesOf(ofBoth, ...['only left', 'only right', 'member'].map((how) => ofCandidates(how, [K12], false))),
     ['Ingrith', 'Ingrid', 'Ingrith'].map((name) => `Candidate “${name} Sablewood” (local-level K-12)`));
-equal('the name of a selection without a report', namesOf(null, { how: 'only left', name: [CANDIDATES, [K12, ['a', 'b', 'c']], true, 18446744073709551615n, null, ['fips', '', '7']] }),
+equal('the name of a selection without a report',
+    namesOf(NO_NAMES, ofCandidates('only left', [K12, ['a', 'b', 'c']], true, 18446744073709551615n, ['fips', '', '7'])),
     ['local-level K-12 + a b c + write-in (place 18446744073709551615, fips 7)']);
-equal('a selection without a name', namesOf(inTwo, { how: 'only left', name: [CANDIDATES, [], false, 0, null, null] }), ['no candidate, party or label (place 0)']);
+equal('a selection without a name', namesOf(ofBoth, ofCandidates('only left', [], false, 0)), ['no candidate, party or label (place 0)']);
 const languages = [['en', 'Yes'], ['es', 'Sí']].map(([Language, Content]) => ({ '@type': 'ElectionResults.LanguageString', Content, Language }));
-equal('a selection with a label', namesOf(inTwo, ...['Yes', { '@type': 'ElectionResults.InternationalizedText', Text: languages }]
-    .map((label) => ({ how: 'only left', name: ['ElectionResults.BallotMeasureSelection', [], false, null, JSON.stringify(label), null] }))), ['“Yes”', 'en: “Yes” + es: “Sí”']);
+equal('a selection with a label', namesOf(ofBoth, ...['Yes', { '@type': 'ElectionResults.InternationalizedText', Text: languages }].map((label) => (
+    { how: 'only left', name: ['ElectionResults.BallotMeasureSelection', [], false, null, JSON.stringify(label), null] }))), ['“Yes”', 'en: “Yes” + es: “Sí”']);
 const [party] = inTwo[0].things.get('party').values();
-equal('a selection of a party', namesOf(inTwo, { how: 'only left', name: ['ElectionResults.PartySelection', [party.key], false, null, null, null] }),
+equal('a selection of a party', namesOf(ofBoth, { how: 'only left', name: ['ElectionResults.PartySelection', [party.key], false, null, null, null] }),
     [`Party “${party.title}” (${party.key.filter(Boolean).join(' ')})`]);
-const many = insideOf(inTwo, { ...ofContest, selections: new Array(101).fill({ how: 'member', member: 'Note', name: [CANDIDATES, [], true, null, null, null] }) });
+const many = insideOf({ ...ofContest, selections: new Array(101).fill({ ...ofCandidates('member', [], true), member: 'Note' }) }, ofBoth);
 equal('many selections', [many.count, many.entries.length, many.entries[0]], [101, 100, { how: 'member', member: 'Note', name: 'write-in' }]);
-equal('selections that are not told', insideOf(inTwo, ofContest), null);
-equal('a difference that has none', [{ member: 'Name' }, { part: 'party' }, { how: 'only left', member: undefined }].map((other) => insideOf(inTwo, { ...ofContest, ...other }) ?? 'none'),
-    ['none', 'none', 'none']);
+equal('selections that are not told', insideOf(ofContest, ofBoth), null);
+const others = [{ member: 'Name' }, { part: 'party' }, { how: 'only left', member: undefined }];
+equal('a difference that has none', others.map((other) => insideOf({ ...ofContest, ...other }, ofBoth) ?? 'none'), ['none', 'none', 'none']);
 
 // A ballot of two files, in which a name is changed and two selections have changed places.
 const moved = county.replace('Ingrith', 'Ingrid').replace('"cs1-2","cs1-3","cs1-4"', '"cs1-3","cs1-2","cs1-4"');

@@ -2,9 +2,8 @@
 import json
 
 import answers
-from session import EXAMPLES, SMALL
+from session import SMALL
 
-COUNTY = EXAMPLES / 'county.vendor-a.json'
 MANY = 11_000
 ENVELOPE = ['Format', 'GeneratedDate', 'Issuer', 'IssuerAbbreviation', 'VendorApplicationId', 'Notes', 'SequenceStart', 'SequenceEnd',
             'ExternalIdentifier']
@@ -19,10 +18,8 @@ def run(session):
     after_election(session)
     seen(session)
     look_alikes(session)
-    own_view(session)
     many_selections(session)
     long_names(session)
-    renamed(session)
     other_type(session)
     worst_type(session)
     type_of_many(session)
@@ -155,7 +152,7 @@ def many_selections(session):
     """More selections that differ than the page shows: it says how many more there are, in the record too."""
     session.judged(with_selections(session, 'left.json', 130, 1), with_selections(session, 'right.json', 130, 2))
     shown = session.texts('.inside > li')
-    session.equal('many selections: the heading', session.texts('.inside-heading'), [answers.say('inside.heading', count=130)])
+    session.equal('many selections: the heading', session.texts('.inside-heading'), [answers.say('inside.heading.contest', count=130)])
     session.equal('many selections: the first and the last', [shown[0], *shown[-2:]],
                   [answers.say('inside.member', selection=f'write-in (place {number}, fips {number})', member='Note') for number in (0, 99)]
                   + [answers.say('inside.more', count=30)])
@@ -168,18 +165,6 @@ def long_names(session):
     session.judged(*(with_selections(session, name, 4, note, 'x' * 300_000) for name, note in (('left.json', 1), ('right.json', 2))))
     session.equal('long names: they are not listed', session.texts('[aria-labelledby="first-difference"] > .note'), [answers.say('inside.notTold')])
     session.equal('long names: nor in the record', session.texts('[data-filed] li > div')[:1], [answers.say('inside.notTold')])
-
-
-def renamed(session):
-    """A changed identifier: the object is found again, and what follows from it is folded."""
-    text = COUNTY.read_text(encoding='utf-8').replace('"K-12"', '"K-99"')
-    session.judged(COUNTY, session.file('renamed.json', text))
-    session.equal('another identifier: the pair', session.texts('.pairs li'),
-                  ['Candidate “Ingrith Sablewood”: local-level K-12 in the first file, local-level K-99 in the second'])
-    session.equal('another identifier: what a voter sees', session.text('.seen h3 + p'), answers.say('seen.alike', count=3))
-    session.equal('another identifier: nothing else differs', session.texts('.others > .differences > li'), [])
-    session.browser.script("document.querySelector('.pairs details').open = true")
-    session.becomes('another identifier: what follows', lambda: len(session.texts('.pairs .differences > li')) > 2, True)
 
 
 def other_type(session):
@@ -227,30 +212,3 @@ def type_of_many(session):
     session.judged(*(written(session, f'{codes}.json', with_codes(codes)) for codes in ('x', 'y')))
     session.becomes('another type, of many: it is offered', lambda: session.text('.offer p'),
                     answers.say('offer.fewer', type='local-level', fewer=0, count=2 * MANY))
-
-
-def own_view(session):
-    """Identifiers of a type that only one file has are left out by a click: that is a view beside the verdict, and so it stands in the record."""
-    def made(vendor, name='Ann'):
-        report = small()
-        election = report['Election'][0]
-        election['Candidate'][0]['BallotName'] = name
-        for thing in (election['Candidate'][0], election['Contest'][0], report['GpUnit'][0]):
-            thing['ExternalIdentifier'].append({'@type': 'ElectionResults.ExternalIdentifier', 'Type': 'other', 'OtherType': vendor, 'Value': vendor + '7'})
-        return report
-
-    left = written(session, 'left.json', made('vendor-a'))
-    for name, report, wanted in (
-            ('nothing else differs', made('vendor-b'), answers.say('own.same', types='other vendor-a, other vendor-b')),
-            ('a name differs', made('vendor-b', 'Anne'), answers.say('own.different', types='other vendor-a, other vendor-b', count=1))):
-        session.judged(left, written(session, 'right.json', report))
-        session.becomes(f'own view: the types, {name}', lambda: session.texts('.own-offer li'), [
-            answers.say('own.types', name='left.json', types='other vendor-a'), answers.say('own.types', name='right.json', types='other vendor-b')])
-        session.click('#own-choose')
-        session.becomes(f'own view: {name}', lambda: session.text('.own-view h3'), wanted)
-        session.equal(f'own view: the verdict stays, {name}', session.text('#verdict'), answers.say('verdict.different'))
-        session.becomes(f'own view: the record, {name}', lambda: session.browser.script("""
-            return [...document.querySelectorAll('.record dt')].filter((one) => one.textContent === arguments[0]).map((one) => one.nextSibling.textContent)""",
-            answers.say('record.own')), [wanted])
-    session.judged(left, written(session, 'right.json', made('vendor-a', 'Anne')))
-    session.equal('own view: not offered for the same types', session.texts('.own-offer'), [])

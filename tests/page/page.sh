@@ -26,9 +26,9 @@ import re, sys
 sys.path.insert(0, 'web')
 import build
 joined = build.joined
-build.joined = lambda first: re.sub('const MOST_WITH_VALUES = .*;', 'const MOST_WITH_VALUES = 1;', joined(first))
+build.joined = lambda first: re.sub('const MOST_WITH_NAMES = .*;', 'const MOST_WITH_NAMES = 1;', joined(first))
 build.main(sys.argv[1:])" "$wasm" "$work/others/short.html"
-said 'the page that shows no values' "$(! cmp -s "$page" "$work/others/short.html" || echo 'it is the same page')"
+said 'the page that knows no names' "$(! cmp -s "$page" "$work/others/short.html" || echo 'it is the same page')"
 if command -v node > /dev/null; then
     if [ ${#parts[@]} -eq 0 ]; then
         for name in modules parts lines words shown chosen judged trees ballot_words record_words; do

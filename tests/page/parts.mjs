@@ -5,11 +5,11 @@ import { pointerOf } from '../../bindings/js/lib/words.mjs';
 import { repeatedNames } from '../../bindings/js/lib/repeated.mjs';
 import { aligned } from '../../web/scripts/alignment.mjs';
 import { BallotFindings } from '../../web/scripts/ballot_findings.mjs';
-import { renamed, talliesOf } from '../../web/scripts/causes.mjs';
 import { boundedPointer, boundedText } from '../../web/scripts/bounded.mjs';
 import { Client } from '../../web/scripts/client.mjs';
 import { markIn, withMark, withoutMark } from '../../web/scripts/copy_mark.mjs';
 import { whyNotJson } from '../../web/scripts/diagnosis.mjs';
+import { Differences, talliesOf } from '../../web/scripts/difference_groups.mjs';
 import { headIn } from '../../web/scripts/envelope.mjs';
 import { readTree } from '../../bindings/js/lib/tree.mjs';
 import { columnsOf } from '../../web/scripts/columns.mjs';
@@ -19,13 +19,13 @@ import { firstLanguage } from '../../web/scripts/languages.mjs';
 import { Meaning } from '../../web/scripts/meaning.mjs';
 import { needsOf } from '../../web/scripts/needs.mjs';
 import { foundPlaces } from '../../web/scripts/places.mjs';
-import { countsOf } from '../../web/scripts/seen.mjs';
-import { rowsOfContent, rowsOfDifference } from '../../web/scripts/rows.mjs';
+import { insideOf } from '../../web/scripts/inside.mjs';
+import { rowsOfDifference } from '../../web/scripts/rows.mjs';
 import { piecesOfBoth } from '../../web/scripts/text_changes.mjs';
 import { languageText, say, sayIfKnown } from '../../web/scripts/texts.mjs';
 import { trailOf } from '../../web/scripts/trail.mjs';
 import { typesIn } from '../../web/scripts/types.mjs';
-import { Values } from '../../web/scripts/values.mjs';
+import { linesOf } from '../../web/scripts/values.mjs';
 import { beginningOf, endOf, piecesOf } from '../../web/scripts/visible.mjs';
 import { ballotsOf } from './answered.mjs';
 import { counts, equal, ROOT, TEXTS } from './counted.mjs';
@@ -105,11 +105,9 @@ for (const [left, right, wantedLeft, wantedRight] of [['aa', 'aaa', 'aa', 'aa[a]
     equal(`what differs between ${left} and ${right}`, [marked(pieces.left), marked(pieces.right)], [wantedLeft, wantedRight]);
 }
 
-const line = (text, indent = 0) => ({ text, like: text, indent });
+const line = (text) => ({ text, like: text });
 const rowsOf = (left, right) => aligned(left, right).map((row) => [row.left?.text ?? null, row.right?.text ?? null, row.same]);
 equal('equal ends', rowsOf(['a', 'y', 'z'].map((text) => line(text)), ['b', 'y', 'z'].map((text) => line(text))), [['a', 'b', false], ['y', 'y', true], ['z', 'z', true]]);
-equal('lines of two levels', rowsOf([line('a')], [line('a', 1)]), [['a', 'a', false]]);
-equal('how many of each word', countsOf(['seen', 'unseen', 'seen']), { seen: 2, 'in doubt': 0, unseen: 1 });
 
 // ---- values and ballots
 
@@ -141,17 +139,33 @@ function report(change = () => {}) {
 }
 
 const meaning = report();
-const style = meaning.thing('style', ['local-level', '', 'S1']);
-const values = new Values(meaning);
-const content = values.content(style.object.OrderedContent);
-equal('lines of a ballot', rowsOfContent(content, [], 0).map(({ left: { text, indent, number } }) => [text, indent, number]), [
-    ['Header “State” (local-level H1)', 0, 1], ['Contest “Governor” (local-level C1)', 1, 1], ['Selection: Candidate “Cy” (local-level K3)', 2, 1],
-    ['Selection: Candidate “Ann” (local-level K1) + Candidate “Bo” (local-level K2)', 2, 2]]);
-equal('a set in the order of its keys', values.ofMember(style, 'GpUnitIds').map(({ text }) => text), ['Unit “East” (other ward U1)', 'Unit “West” (other ward U2)']);
-equal('lines of selections', values.ofMember(meaning.thing('contest', ['local-level', '', 'C1']), 'ContestSelection')
-    .filter(({ indent }) => indent === 0).map(({ text }) => text).at(-1), 'Selection: write-in');
-equal('one reference', values.ofMember(meaning.thing('candidate', ['local-level', '', 'K1']), 'PartyId').map(({ text }) => text), ['Party “Blue” (local-level P1)']);
-equal('the title of a person', meaning.thing('person', ['local-level', '', 'N1']).title, 'Ann Ash');
+const { names } = meaning;
+const textsOf = (name, value) => linesOf(name, value, names).map(({ text }) => text);
+const K = (code) => ['local-level', '', code];
+const code = { '@type': 'ElectionResults.ExternalIdentifier', Type: 'other', OtherType: 'ward', Value: '7' };
+const VALUES = {
+    'a set of units': ['GpUnitIds', [['other', 'ward', 'U1'], ['other', 'ward', 'U2']], ['Unit “East” (other ward U1)', 'Unit “West” (other ward U2)']],
+    'a party': ['PartyId', K('P1'), ['Party “Blue” (local-level P1)']],
+    'a party that no name is known of': ['PartyId', K('P9'), ['Party (local-level P9)']],
+    'persons': ['LeaderPersonIds', [K('N1')], ['Person “Ann Ash” (local-level N1)']],
+    'authorities': ['AuthorityIds', [K('N1')], ['Person “Ann Ash” (local-level N1)']],
+    'a scope': ['PartyScopeGpUnitIds', [['other', 'ward', 'U1']], ['Unit “East” (other ward U1)']],
+    'a district': ['ElectionDistrictId', ['other', 'ward', 'U2'], ['Unit “West” (other ward U2)']],
+    'the scope of an election': ['ElectionScopeId', K('X'), ['Unit (local-level X)']],
+    'a contest': ['ContestIds', [K('C1')], ['Contest “Governor” (local-level C1)']],
+    'an election': ['ElectionId', K('E'), ['Election (local-level E)']],
+    'a text': ['Name', 'Mayor', ['“Mayor”']],
+    'a number': ['VotesAllowed', 18446744073709551615n, ['18446744073709551615']],
+    'a flag': ['IsTest', false, ['false']],
+    'a label': ['Name', label(['en', 'Yes'], ['es', 'Sí']), ['en: “Yes”', 'es: “Sí”']],
+    'identifiers': ['ExternalIdentifier', [code, { ...code, Note: { a: [1, null] } }],
+        ['other ward 7', 'other ward 7', 'other ward 7: Note: a: 1: 1', 'other ward 7: Note: a: 2: null']],
+    'what is carried': ['Note', { a: { b: 'x', c: [] }, d: {} }, ['a: b: “x”', 'a: c: []', 'd: {}']],
+};
+Object.entries(VALUES).forEach(([what, [name, value, wanted]]) => equal(`lines of ${what}`, textsOf(name, value), wanted));
+equal('lines of one key are alike, whatever the object is called', [report(), report((made) => { made.Party[0].Name = 'Azure'; })]
+    .map((one) => linesOf('PartyId', K('P1'), one.names)[0].like).map((like, _at, [first]) => like === first), [true, true]);
+equal('the title of a person', meaning.thing('person', K('N1')).title, 'Ann Ash');
 
 const shown = ({ mark, lines, selections = [] }) => [mark, lines.map(({ role, texts }) => [role, ...texts.map(({ lang, pieces }) => lang
     + pieces.map(({ text, mark: word }) => (word === '' ? text : `<${word} ${text}>`)).join(''))]), selections.map(shown)];
@@ -243,29 +257,71 @@ const lengthy = answersOf(...[0, 1].map((side) => report((made, election) => {
 equal('much that differs on a ballot', belowOf(lengthy).map(([below, all]) => [below.length, below.every((line) => line.length <= 301), all]),
     [[30, true, 62], [0, true, 0]]);
 
-// Two write-in lines that only an identifier tells apart.
-const writeIn = (code) => report((_made, election) => {
-    election.Contest[0].ContestSelection[2].ExternalIdentifier = identified(code);
-    election.BallotStyle[0].OrderedContent[0].OrderedContent[0].OrderedContestSelectionIds = ['cs3'];
-});
-equal('lines that only an identifier tells apart', rowsOfDifference([writeIn('W1'), writeIn('W2')],
-    { part: 'style', key: ['local-level', '', 'S1'], how: 'member', member: 'OrderedContent' }).rows
-        .filter(({ same }) => !same).map(({ left, right }) => [left?.text ?? null, right?.text ?? null]),
-    [['Selection: write-in (local-level W1)', null], [null, 'Selection: write-in (local-level W2)']]);
+// ---- differences of the proved list
 
-// ---- causes
+const both = [names, names];
+const of = (member, left, right, more = {}) => ({ part: 'contest', key: K('C1'), how: 'member', member, ...more,
+    values: { ...(left === undefined ? {} : { left }), ...(right === undefined ? {} : { right }) } });
+const rowsShown = (difference) => rowsOfDifference(difference, both).rows.map(({ left, right, same, equal: count }) => (
+    same === undefined ? count : [left?.text ?? null, right?.text ?? null, same]));
+equal('two values', rowsShown(of('VotesAllowed', 1, 2)), [['1', '2', false]]);
+const gone = of('Note', undefined, 'x');
+equal('a value that one file lacks', [rowsShown(gone), rowsOfDifference(gone, both).there], [[[null, '“x”', false]], [false, true]]);
+const offices = 'ABCDE'.split('').map(K);
+equal('a set that has one more', rowsShown(of('OfficeIds', offices.slice(0, 4), offices)), [2, ['Office (local-level C)', 'Office (local-level C)', true],
+    ['Office (local-level D)', 'Office (local-level D)', true], [null, 'Office (local-level E)', false]]);
+const noted = (Note) => ({ ...label(['en', 'Yes']), Note });
+equal('two labels that differ in what they carry', rowsShown(of('Name', noted(1), noted(2)))
+    .map(([left, right]) => [left.includes('"Note":1'), right.includes('"Note":2')]), [[true, true]]);
+const record = (name, members) => ({ class: `ElectionResults.${name}`, election: null, members });
+const ONE = { part: 'party', key: K('P7'), how: 'only left', values: { left: record('Party', { Name: label(['es', 'Azul'], ['en', 'Blue']) }) } };
+equal('an object that one file has', rowsOfDifference(ONE, both), { titles: ['Blue', null], rows: null, classes: ['Party', null] });
+const CLASSES = { ...ONE, how: 'other class', values: { left: record('Party', { Name: 'Blue' }), right: record('Coalition', { Name: 'Both' }) } };
+equal('an object of another class', rowsOfDifference(CLASSES, both), { titles: ['Blue', 'Both'], rows: null, classes: ['Party', 'Coalition'] });
+equal('selections have no rows', rowsOfDifference({ ...of('ContestSelection'), values: undefined }, both), { titles: ['Governor', 'Governor'] });
 
-const withPersons = (...codes) => report((made) => {
-    made.Person = codes.map((code, index) => ({ ...made.Person[0], '@id': `pe${index + 1}`, ExternalIdentifier: identified(code) }));
-});
-const onlyOf = (how, codes) => codes.map((code) => ({ part: 'person', key: ['local-level', '', code], how }));
-const pairsOf = (left, rights) => renamed([withPersons(...left), withPersons(...rights)], [...onlyOf('only left', left), ...onlyOf('only right', rights)]).pairs
-    .map(({ keys }) => keys.map((key) => key[2]));
-equal('one person under another code', pairsOf(['A'], ['B']), [['A', 'B']]);
-equal('two persons who could be one', [pairsOf(['A', 'B'], ['C']), pairsOf(['A'], ['B', 'C']), pairsOf(['A', 'B'], ['C', 'D'])], [[], [], []]);
-const member = (code, name) => ({ part: 'unit', key: ['fips', '', code], how: 'member', member: name });
+// What differs on the ballot of a style, by the lines of the proved code.
+const BELOW = `  changed parties
+  changed units
+  removed header ["local-level","","H1"]
+  moved contest ["local-level","","C1"]
+    added selection ["ElectionResults.CandidateSelection",[["local-level","","K1"],["local-level","","K2"]],false,null,null,null]
+    moved selection ["ElectionResults.CandidateSelection",[],true,18446744073709551615,null,["local-level","","W 1"]]
+`;
+const ofStyle = { part: 'style', key: K('S1'), how: 'member', member: 'OrderedContent' };
+const onBallot = (below) => insideOf(ofStyle, both, () => below);
+equal('what differs on a ballot, with its words', onBallot(BELOW), { part: 'style', count: 6, entries: [
+    { how: 'changed', name: 'Parties' }, { how: 'changed', name: 'Units' }, { how: 'removed', name: 'Header “State” (local-level H1)' },
+    { how: 'moved', name: 'Contest “Governor” (local-level C1)' },
+    { how: 'added', name: 'Selection: Candidate “Ann” (local-level K1) + Candidate “Bo” (local-level K2)' },
+    { how: 'moved', name: 'Selection: write-in (place 18446744073709551615, local-level W 1)' }] });
+equal('a ballot whose lines are the same', onBallot(''), { part: 'style', count: 0, entries: [] });
+equal('a ballot of which nothing is known', onBallot(null) ?? 'none', 'none');
+const lengthyBallot = onBallot('  changed units\n'.repeat(101));
+equal('much that differs on a ballot, of which the first is shown', [lengthyBallot.count, lengthyBallot.entries.length], [101, 100]);
+
+const onlyOf = (how, codes) => codes.map((one) => ({ part: 'person', key: K(one), how }));
+const member = (one, name) => ({ part: 'unit', key: ['fips', '', one], how: 'member', member: name });
 equal('how many objects differ', talliesOf([member('1', 'Name'), member('1', 'Type'), member('2', 'Name'), ...onlyOf('only right', ['A'])]),
     [{ part: 'unit', 'only left': 0, 'only right': 0, differ: 2, members: 3 }, { part: 'person', 'only left': 0, 'only right': 1, differ: 0, members: 0 }]);
+
+// The words of differences, and their kinds. What identifiers carry is in doubt.
+const SEEN = { CandidateContest: { Name: 'seen', ExternalIdentifier: 'unseen', NumberElected: 'in doubt' } };
+const carrying = (...notes) => notes.map((Note) => ({ ...code, ...(Note === null ? {} : { Note }) }));
+const list = [of('ExternalIdentifier', [code], [{ ...code, Value: '8' }]), of('ExternalIdentifier', carrying(1), carrying(2)),
+    of('Name', 'a', 'b'), of('NumberElected', 1, 2), of('ExternalIdentifier', undefined, carrying(null, 5))];
+const differences = new Differences(list, 9, () => null, both, SEEN);
+const wordsOf = (entries) => entries.map(({ number, word }) => [number, word]);
+equal('the words of differences', wordsOf(differences.some({ from: 0, count: 9 })),
+    [[0, 'unseen'], [1, 'in doubt'], [2, 'seen'], [3, 'in doubt'], [4, 'in doubt']]);
+equal('what weighs most is filed first', wordsOf(differences.some({ isFiled: true, from: 0, count: 3 })), [[2, 'seen'], [1, 'in doubt'], [3, 'in doubt']]);
+equal('some of one kind', wordsOf(differences.some({ kind: 0, from: 1, count: 1 })), [[1, 'in doubt']]);
+const told = differences.told({ all: 2, differing: 1 });
+equal('what is told of the list', [told.count, told.listed, told.first.number, told.seen.unseen, told.kinds.map(({ member: name, count }) => [name, count])],
+    [9, 5, 0, 1, [['ExternalIdentifier', 3], ['Name', 1], ['NumberElected', 1]]]);
+const unnamed = new Differences(list, 5);
+equal('a list without names', [unnamed.told(null).seen, unnamed.some({ from: 2, count: 1 })
+    .map(({ word, titles, rows }) => [word ?? 'none', titles, rows.length])], [null, [['none', [null, null], 1]]]);
 
 // ---- a worker that ends, or that can't begin
 

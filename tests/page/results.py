@@ -113,7 +113,7 @@ class Result:
         self.answers = [Answer(program, path, self.prefer, spec.get('outcome')) for spec, path in zip(self.specs, self.paths)]
         self.compared, self.lines, self.data = None, [], []
         self.is_listed = row.get('others') is not None
-        self.has_values = row.get('page') != 'short'
+        self.has_names = row.get('page') != 'short'
         if len(self.paths) == 2 and all(it.outcome == 'accepted' for it in self.answers):
             self.line = program.run(self.prefer, 'compare', *self.paths)[1].decode('utf-8').rstrip('\n')
             self.lines = program.run(self.prefer, 'differences', *self.paths)[1].decode('utf-8').splitlines() if self.is_listed else []
@@ -158,11 +158,11 @@ class Result:
         return {
             'tone': f'banner {tone}', 'sign': sign, 'heading': heading, 'announced': heading, 'notices': self.notices(), 'sentences': sentences,
             'envelope': (ENVELOPE + self.envelope()) if self.compared in ('same', 'different') else [], 'headings': self.headings(),
-            'seen': [self.seen()] if self.is_listed and self.has_values else [],
+            'seen': [self.seen()] if self.is_listed and self.has_names else [],
             'faults': [self.faults(it, side) for it, side in self.each('refused')],
             'notJson': [self.not_json(it, side) for it, side in self.each('notJson')],
             'first': [self.entry(self.first())] if self.compared == 'different' else [], 'others': self.others(),
-            'notes': ([say('difference.noOthers')] if is_one else []) + ([] if self.has_values else [say('difference.tooLarge')]),
+            'notes': ([say('difference.noOthers')] if is_one else []) + ([] if self.has_names else [say('difference.tooLarge')]),
             'record': self.record(heading), 'chosen': self.chosen(), 'prefer': self.types(),
         }
 
@@ -197,10 +197,9 @@ class Result:
 
     def headings(self):
         found = self.notices()
-        if self.is_listed and self.has_values:
+        if self.is_listed and self.has_names:
             found.append(self.seen()[0])
             found += self.on_ballots()
-            found += [say('own.heading')] if self.own_kinds() else []
         if self.compared == 'different':
             found.append(say('difference.first'))
             found += [say('difference.all', count=len(self.entries))] if len(self.entries) > 1 else []
@@ -220,11 +219,6 @@ class Result:
         found = [say('notice.sameBytes')] if len(sums) == 2 and sums[0] is not None and sums[0] == sums[1] else []
         return found + [say('notice.test', name=it.name) for it in self.answers if it.outcome == 'accepted' and json.loads(it.path.read_bytes()).get('IsTest')]
 
-    def own_kinds(self):
-        """The types of identifier that only one file has."""
-        left, right = (answers.kinds_in(json.loads(path.read_bytes())) for path in self.paths)
-        return left ^ right
-
     def on_ballots(self):
         """The heading of what differs on the ballots, which stands there if they differ."""
         return [self.session.text('#on-ballots') or 'what differs on the ballots'] if self.differing()[0] > 0 else []
@@ -236,9 +230,10 @@ class Result:
         return [heading, *self.left_out(), *self.kinds([entry for entry in self.entries if self.word(entry) == 'unseen'])]
 
     def left_out(self):
-        """What a voter may see, and the ballots leave out."""
-        is_told = self.look_different()
-        return self.kinds([entry for entry in self.entries if self.word(entry) != 'unseen' and not (is_told and self.is_shown(entry))])
+        """What a voter may see, and the ballots that differ don't tell."""
+        differ = self.differing()[0] > 0
+        return self.kinds([entry for entry in self.entries if self.word(entry) != 'unseen' and not (
+            differ and self.word(entry) == 'seen' and entry['part'] != 'election')])
 
     def kinds(self, entries):
         """The line of each kind of differences."""
@@ -313,21 +308,24 @@ class Result:
 
     def entry(self, entry):
         """A difference as it is shown: its sentence, what differs inside selections, and its table."""
-        return [self.sentence_on(entry), *self.inside(entry), *(self.table(entry) if self.has_values else [])]
+        return [self.sentence_on(entry), *self.inside(entry), *self.table(entry)]
 
     def other(self, entry):
         """A difference of the list. Its table has no more than its sentence needs."""
-        table = self.table(entry) if self.has_values else []
-        return [self.sentence_on(entry), *self.inside(entry), *(table[-1:] if entry['how'] == 'member' else table)]
+        table = self.table(entry)
+        return [self.sentence_on(entry), *self.inside(entry), *((table[-1:] if entry.get('values') else []) if entry['how'] == 'member' else table)]
 
     def inside(self, entry):
-        """What differs inside the selections of a contest: the reference program says how, and the row has the names."""
+        """What differs inside the selections of a contest: the reference program says how, and the row has the names. What differs on a ballot
+        is in the row."""
+        if 'onBallot' in entry:
+            return [say('inside.heading.style', count=len(entry['onBallot'])), *(say(f'inside.{how}', selection=name) for how, name in entry['onBallot'])]
         ways = next((it['selections'] for it in self.data if (it['key'], it.get('member')) == (entry.get('key'), entry.get('member')) and 'selections' in it), [])
         names = entry.get('inside', [])
         assert len(ways) == len(names), f'{self.name}: {len(ways)} names of {entry}'
         lines = [say(f'inside.{way["how"]}', selection=name, member=member_words(way.get('member', '')), left=self.answers[0].name,
                      right=self.answers[1].name) for way, name in zip(ways, names)]
-        return [say('inside.heading', count=len(lines)), *lines] if lines else []
+        return [say('inside.heading.contest', count=len(lines)), *lines] if lines else []
 
     def sentence_on(self, entry):
         title = next((f' “{it}”' for it in entry['titles'] if it), '')
@@ -371,7 +369,7 @@ class Result:
 
     def record(self, heading):
         lines = [[say('record.verdict'), heading]]
-        if self.is_listed and self.has_values:
+        if self.is_listed and self.has_names:
             lines.append([say('record.seen'), self.seen()[0]])
         for number, it in enumerate(self.answers, 1):
             lines += self.record_of(it, number if len(self.answers) == 2 else '')
@@ -393,9 +391,9 @@ class Result:
         entries = [line for it in refused for line in it.lines.decode('utf-8').splitlines()]
         if self.is_listed:
             headings = [say('difference.all', count=len(self.entries))]
-            ordered = sorted(self.entries, key=lambda entry: ('seen', 'in doubt', 'unseen').index(self.word(entry))) if self.has_values else self.entries
+            ordered = sorted(self.entries, key=lambda entry: ('seen', 'in doubt', 'unseen').index(self.word(entry))) if self.has_names else self.entries
             entries = [self.sentence_on(entry) + ''.join(self.inside(entry)[1:] or values_filed(entry)) for entry in ordered]
-        is_told = self.is_listed and self.has_values
+        is_told = self.is_listed and self.has_names
         alike = [say('seen.alike', count=self.differing()[0])] if is_told and self.differing()[0] > 0 and not self.look_different() else []
         left_out = [say('seen.leftOut')] if is_told and self.left_out() else []
         paragraphs = [*self.notices(), *alike, *left_out, say('record.proved'), say('record.notProved'), *self.signed()]
@@ -499,13 +497,10 @@ def member_text(value):
 def values_filed(entry):
     """The values of a difference as the printed record has them."""
     nothing = say('difference.notThere')
-    below = ''.join(say('record.below', head=head) for head in entry.get('below', ()))
     for row in entry.get('values', ()):
-        if nothing in row or not any('≠' in value for value in row):
-            continue
-        left, right = (value.replace('≠', '') for value in row)
-        moved = re.fullmatch(r'\d+\. (.*)(moved from \d+ to \d+)', right)
-        yield below + (f'{moved[1]} {moved[2]}' if moved else f'{left or nothing} / {right or nothing}')
+        if nothing not in row and any('≠' in value for value in row):
+            left, right = (value.replace('≠', '') for value in row)
+            yield f'{left or nothing} / {right or nothing}'
 
 
 def sign():

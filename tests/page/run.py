@@ -3,7 +3,7 @@
 usage: run.py BROWSER PAGE OTHERS WORK PICTURES [PART ..]
 
 BROWSER is Chromium or Firefox, PAGE the file of the page, and OTHERS a folder with pages that differ from it in a limit: `poor.html`
-has less memory for the proved code, if it is there, and `short.html` shows no values of differences. WORK is a folder for
+has less memory for the proved code, if it is there, and `short.html` knows no names of objects. WORK is a folder for
 files of the test, and PICTURES one for pictures. With names of parts, only these are tried. The last line is 'N passed, M failed'.
 """
 import os

@@ -104,7 +104,7 @@ class Session:
     def open_details(self):
         """Opens all that is closed, and waits until the tables of the differences and the ballots are there."""
         for ready in ("document.querySelector('#ballots') === null || document.querySelector('#ballots :is(.style, .none)') !== null",
-                      "[...document.querySelectorAll('.differences details')].every((one) => one.querySelector('table, .inside') !== null)",
+                      "[...document.querySelectorAll('.differences details')].every((one) => one.querySelector('table, .inside, .note') !== null)",
                       "[...document.querySelectorAll('.style')].every((one) => one.querySelector('.ballot') !== null)"):
             self.browser.script("document.querySelectorAll('details').forEach((one) => { one.open = true; })")
             self.browser.until('return ' + ready)

@@ -7,7 +7,7 @@ import { findingSentence } from '../../web/scripts/ballot_sentences.mjs';
 import { ballotShown } from '../../web/scripts/ballot_view.mjs';
 import { cardOf } from '../../web/scripts/card.mjs';
 import { firstDifference, insideSentence, useExplanations } from '../../web/scripts/comparison.mjs';
-import { differenceList, ownOffer, ownSentence, typeOffer } from '../../web/scripts/difference_list.mjs';
+import { differenceList, typeOffer } from '../../web/scripts/difference_list.mjs';
 import { FaultCards, where } from '../../web/scripts/faults.mjs';
 import { differencesFiled, faultsFiled } from '../../web/scripts/findings.mjs';
 import { convertedLines, convertedNotices, convertedSentence, savedName } from '../../web/scripts/from_xml/shown.mjs';
@@ -95,9 +95,10 @@ const SEEN = {
 // ---- differences
 
 const KEY = ['local-level', '', 'K-1'];
-const line = (text) => ({ text, indent: 0 });
+const line = (text) => ({ text });
 const VOTES = { part: 'contest', key: KEY, how: 'member', member: 'VotesAllowed', titles: ['Mayor', 'Mayor'], classes: ['CandidateContest', 'CandidateContest'],
     there: [true, true], lacking: [false, false], rows: [{ left: line('1'), right: line('2'), same: false }] };
+const INSIDE = { part: 'contest', key: KEY, how: 'member', member: 'ContestSelection', titles: ['Mayor', 'Mayor'] };
 const DIFFERENCES = {
     'a member': VOTES,
     'only left': { part: 'candidate', key: KEY, how: 'only left', titles: ['Ann', null], classes: ['Candidate', null] },
@@ -105,37 +106,35 @@ const DIFFERENCES = {
     'another class': { part: 'party', key: KEY, how: 'other class', titles: ['Blue', 'Blue'], classes: ['Party', 'Coalition'] },
     'a member that one file lacks': { ...VOTES, part: 'unit', key: null, member: 'Odd', titles: [null, null], classes: ['ReportingUnit', 'ReportingUnit'],
         there: [true, false], lacking: [false, true], rows: [{ left: line('x'), right: null, same: false }] },
-    'a line that has moved, equal lines and more': { ...VOTES, rows: [{ equal: 7 },
-        { left: line('A'), right: line('A'), same: false, moved: { from: 1, to: 3 } },
-        { left: line('B'), right: line('B'), same: false, moved: { from: 2, to: 2 } }, { left: line('C'), right: line('C'), same: true }, { more: 5 }] },
-    'some of what differs inside': { ...VOTES, member: 'ContestSelection', rows: [], inside: { count: 3, entries: [{ how: 'only left', name: 'Ann' }] } },
-    'what differs inside is not told': { ...VOTES, rows: [], inside: null },
+    'equal lines and more': { ...VOTES, rows: [{ equal: 7 }, { left: line('A'), right: line('B'), same: false },
+        { left: line('C'), right: line('C'), same: true }, { more: 5 }] },
+    'some of what differs inside': { ...INSIDE, inside: { part: 'contest', count: 3, entries: [{ how: 'only left', name: 'Ann' }] } },
+    'what differs inside is not told': { ...INSIDE, inside: null },
+    'what differs on a ballot': { ...INSIDE, part: 'style', member: 'OrderedContent', inside: { part: 'style', count: 4, entries: [
+        { how: 'changed', name: 'Units' }, { how: 'removed', name: 'Contest' }, { how: 'added', name: 'Header' }, { how: 'moved', name: 'Selection: Ann' }] } },
+    'a ballot whose lines are the same': { ...INSIDE, part: 'style', member: 'OrderedContent', inside: { part: 'style', count: 0, entries: [] } },
 };
 const ENTRIES = Object.values(DIFFERENCES).slice(0, 4);
 const numbered = (number) => ({ ...ENTRIES[number], number, word: 'seen' });
 const TALLIES = [{ part: 'contest', differ: 1, members: 3, 'only left': 0, 'only right': 0 },
     { part: 'candidate', differ: 0, members: 0, 'only left': 1, 'only right': 2 }];
-const LISTED = { count: 4, listed: 4, tallies: TALLIES, pairs: [], counts: { own: 4, caused: 0 }, seen: {}, kinds: [] };
+const LISTED = { count: 4, listed: 4, tallies: TALLIES, seen: {}, kinds: [{ count: 3 }, { count: 1 }] };
 // A client answers what it is asked, and nothing else.
 const answering = (answers) => ({ ask: async (kind, question) => answers[kind](question) });
 const lister = (all) => answering({ more: ({ from, count }) => ENTRIES.slice(from, Math.min(all, from + count)).map((_, at) => numbered(from + at)) });
-const PAIR = { part: 'person', keys: [KEY, ['fips', '', 'X']], titles: ['Ann', 'Ann'] };
-const own = (types, count) => ownSentence({ types, count });
 const LISTS = {
     'inside selections': [{ how: 'member', member: 'SequenceOrder', name: 'Ann' }, { how: 'only left', name: 'Ann' }, { how: 'only right', name: 'Ann' }]
         .map((one) => insideSentence(one, NAMES)),
     'the list': await differenceList(lister(4), LISTED, NAMES),
     'a part of the list': await differenceList(lister(4), { ...LISTED, count: 9, tallies: [] }, NAMES),
-    'a list that was miscounted': await differenceList(lister(4), { ...LISTED, counts: { own: 5, caused: 0 }, tallies: [], seen: null }, NAMES),
+    'a list that was miscounted': await differenceList(lister(4), { ...LISTED, kinds: [{ count: 5 }], tallies: [], seen: null }, NAMES),
     'one difference alone': await differenceList(lister(4), { ...LISTED, count: 1 }, NAMES),
-    'a pair': await differenceList(lister(1), { ...LISTED, tallies: [], pairs: [PAIR], counts: { own: 1, caused: 3 } }, NAMES),
     'filed differences': differencesFiled([numbered(0), numbered(1)], { count: 5, listed: 5 }, NAMES),
     'filed differences of a part': differencesFiled([numbered(2)], { count: 9, listed: 5 }, NAMES),
+    'filed differences inside': differencesFiled([{ ...DIFFERENCES['what differs on a ballot'], number: 0 },
+        { ...DIFFERENCES['a ballot whose lines are the same'], number: 1 }], { count: 2, listed: 2 }, NAMES),
     'filed faults': faultsFiled(['/a: wrong kind', '/b: repeated'], 7, 'a.json'),
     'all faults are filed': faultsFiled(['/a: wrong kind'], 1, 'a.json'),
-    'the offer of an own view': ownOffer([['fips'], []], NAMES, () => {}),
-    'no offer': ownOffer([[], []], NAMES, () => {}),
-    'own views': [own([['fips'], ['x']], 0), own([['fips'], []], 3), own([[], ['x']], null)],
     'the offer of a type': typeOffer({ type: 'ocd-id', fewer: 1, count: 9 }, () => {}),
 };
 

@@ -1,16 +1,14 @@
-// Holds which modules of the page read the tree of a report, and what for: it is read for the words beside keys, and to help a reader
-// of the proved list. Which differences and which ballots there are comes from the proved code. The modules are listed here by hand. One
-// line for each case that fails; at the end stand the counts.
+// Holds which modules of the page read the tree of a report, and what for: it is read for the words beside keys. Which differences and
+// which ballots there are, and the values of differences, come from the proved code. The modules are listed here by hand. One line for
+// each case that fails; at the end stand the counts.
 import { readdirSync, readFileSync } from 'node:fs';
 import { counts, equal, ROOT } from './counted.mjs';
 
 // The modules that take an object out of a tree, or are handed a tree or its objects.
 const READ_TREES = {
-    'ballots.mjs': 'the words beside keys', 'ballot_answers.mjs': 'languages, and the units around others', 'causes.mjs': 'objects under another identifier',
-    'difference_groups.mjs': 'the values of the proved differences', 'judging.mjs': 'makes the trees', 'meaning.mjs': 'objects by key',
-    'overview.mjs': 'what one file has', 'rows.mjs': 'the values of a difference', 'seen.mjs': 'the words of the table of the profile',
-    'selection_names.mjs': 'names of selections', 'values.mjs': 'a value as lines', 'own_view.mjs': 'types of identifiers that one file has',
-    'side.mjs': 'reads the form',
+    'ballots.mjs': 'the words beside keys', 'ballot_answers.mjs': 'languages, and the units around others', 'judging.mjs': 'makes the trees',
+    'meaning.mjs': 'names of objects by key', 'overview.mjs': 'what one file has',
+    'seen.mjs': 'the members that the ballots of one file show', 'side.mjs': 'reads the form',
 };
 // The modules that ask the proved code.
 const ASK_THE_CORE = ['judging.mjs', 'side.mjs'];
@@ -43,6 +41,6 @@ const CALLS = ['erd_ballot', 'erd_ballots', 'erd_ballots_beside'];
 equal('what the answers ask', [...new Set(modules.get('ballot_answers.mjs').match(/(?<=')erd_\w+(?=')/g))].sort(), CALLS);
 // What shows answers makes none: it imports no module that reads a tree, but for words.
 const SHOW = ['seen_box.mjs', 'ballot_list.mjs', 'ballot_sentences.mjs', 'ballot_print.mjs', 'difference_list.mjs', 'result.mjs', 'record.mjs'];
-const WORDS_ALONE = ['values.mjs', 'ballots.mjs'];
+const WORDS_ALONE = ['ballots.mjs'];
 SHOW.forEach((name) => equal(`${name} reads no tree`, imports.get(name).filter((one) => Object.hasOwn(READ_TREES, one) && !WORDS_ALONE.includes(one)), []));
 counts();

@@ -28,7 +28,7 @@ export function aligned(left, right) {
 }
 
 function alike(one, other) {
-    return one.like === other.like && one.indent === other.indent;
+    return one.like === other.like;
 }
 
 function sameRow(left, right) {

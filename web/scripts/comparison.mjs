@@ -8,7 +8,6 @@ import { beginningOf, endOf } from './visible.mjs';
 const LONGEST_LINE = 400;
 const AROUND = 80;
 const LONGEST_TITLE = 60;
-const DEEPEST = 8;
 
 let explanations = null;
 
@@ -69,7 +68,7 @@ export function memberWords(name) {
     return words === undefined ? element('span', {}, code(name)) : element('span', {}, `${words} (`, code(name), ')');
 }
 
-// ---- what differs inside the selections of two contests
+// ---- what differs inside the selections of two contests, or on the ballots of two styles
 
 function insideShown({ inside }, names) {
     if (inside === undefined) {
@@ -78,13 +77,16 @@ function insideShown({ inside }, names) {
     if (inside === null) {
         return [element('p', { class: 'note' }, say('inside.notTold'))];
     }
+    if (inside.count === 0) {
+        return [element('p', { class: 'note' }, say('inside.carried'))];
+    }
     const more = inside.count - inside.entries.length;
-    return [element('p', { class: 'inside-heading' }, say('inside.heading', { count: inside.count })),
+    return [element('p', { class: 'inside-heading' }, say(`inside.heading.${inside.part}`, { count: inside.count })),
         element('ul', { class: 'inside' }, ...inside.entries.map((one) => element('li', {}, insideSentence(one, names))),
             more === 0 ? null : element('li', {}, say('inside.more', { count: more })))];
 }
 
-/** A difference inside selections, as a sentence. */
+/** A difference inside selections or on a ballot, as a sentence. */
 export function insideSentence({ how, member, name }, names) {
     return saidWith(`inside.${how}`, { selection: element('strong', {}, long(name, LONGEST_LINE)), member: memberWords(member ?? ''),
         left: theirs(names[0]), right: theirs(names[1]) });
@@ -95,7 +97,7 @@ export function insideSentence({ how, member, name }, names) {
 // What the object is called in each file, its identifier, and its class if the classes differ.
 function objectGroups({ how, titles, classes, key }) {
     const keyText = textOfKeyIn({ key });
-    const there = classes.map((name) => name !== null);
+    const there = [how !== 'only right', how !== 'only left'];
     const groups = [['difference.name', titles], ['difference.identifier', there.map((is) => (is ? keyText : null))]];
     if (how === 'other class') {
         groups.push(['difference.class', classes]);
@@ -106,12 +108,12 @@ function objectGroups({ how, titles, classes, key }) {
 
 function textCell(text, texts) {
     const same = texts[0] === texts[1];
-    return lineCell(text === null ? null : { text, indent: 0 }, same, undefined, () => absent('difference.notThere'));
+    return lineCell(text === null ? null : { text }, same, undefined, () => absent('difference.notThere'));
 }
 
 // The member's value in each file.
 function memberGroups({ how, member, rows, there, lacking }) {
-    if (how !== 'member') {
+    if (how !== 'member' || rows === undefined) {
         return [];
     }
     const words = lacking.map((isLacking, side) => (isLacking ? absent(there[side] ? 'difference.empty' : 'difference.notThere') : null));
@@ -125,22 +127,14 @@ function lackingRow(lacking) {
 
 // A row, or how many are left out.
 function rowShown(shown) {
-    const { left, right, same, moved, pieces, alike, equal, more } = shown;
+    const { left, right, same, pieces, alike, equal, more } = shown;
     if (same === undefined) {
         return [gap(more === undefined ? 'difference.equalLines' : 'difference.moreLines', more ?? equal)];
     }
     const row = element('tr', { class: same ? 'same' : 'differs' },
         lineCell(left, same, pieces?.left), lineCell(right, same, pieces?.right));
-    if (moved !== undefined) {
-        row.lastElementChild.append(element('div', { class: 'move' }, movedWords(moved)));
-    }
     return alike === undefined || alike.length === 0 ? [row]
         : [row, element('tr', {}, element('td', { colspan: '2', class: 'alike' }, ...alike.map(whyShown)))];
-}
-
-/** Where a line has moved. Its number may be the same, if it stands below another header now. */
-export function movedWords({ from, to }) {
-    return from === to ? say('value.movedElsewhere') : say('value.moved', { from, to });
 }
 
 // Why two texts look alike, with the explanation of docs/FIXES.md to open.
@@ -159,9 +153,7 @@ function lineCell(line, same, pieces, otherwise = () => null) {
     if (line === null) {
         return element('td', {}, otherwise());
     }
-    const number = line.number === undefined ? null : `${line.number}. `;
-    const shown = element('div', { class: 'value' }, number, ...pieces === undefined ? [long(line.text, LONGEST_LINE)] : piecesShown(line.text, pieces));
-    shown.style.setProperty('--indent', String(Math.min(line.indent, DEEPEST)));
+    const shown = element('div', { class: 'value' }, ...pieces === undefined ? [long(line.text, LONGEST_LINE)] : piecesShown(line.text, pieces));
     return same ? element('td', {}, shown) : element('td', { class: 'changed' }, differsSign(), shown);
 }
 

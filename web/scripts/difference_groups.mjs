@@ -1,131 +1,117 @@
-// The proved list of differences in groups: those that stand by themselves, and those that follow from another identifier alone.
-import { renamed, talliesOf } from './causes.mjs';
+// The proved list of differences for a reader: by kinds, with what is known of all of them together, and each as the page shows it.
 import { compactText } from '../../bindings/js/lib/exact.mjs';
+import { insideOf } from './inside.mjs';
 import { rowsOfDifference } from './rows.mjs';
-import { countsOf, leftOutOf, showsOf, unseenOf, wordOf, WORDS } from './seen.mjs';
-import { insideOf } from './selection_names.mjs';
-import { shownRows } from './shown_rows.mjs';
-
-/** The most differences for which objects under another identifier are looked for. */
-const MOST_PAIRED = 2000;
+import { wordOf, WORDS } from './seen.mjs';
 
 // An identifier that carries nothing.
 const PLAIN = '{"@type":"ElectionResults.ExternalIdentifier"}';
 
+// The names of objects where they are not known.
+const UNNAMED = [() => undefined, () => undefined];
+
 export class Differences {
     /**
-     * @param {import('../../bindings/js/index.d.ts').Difference[]} entries the proved list, or its beginning if it is very long
+     * @param {import('../../bindings/js/index.d.ts').Difference[]} entries the proved list with its values, or its beginning if it is very long
      * @param {number} all how many differences there are
-     * @param {import('./meaning.mjs').Meaning[] | null} meanings null where the files are too large for their values to be shown
-     * @param {Record<string, Record<string, string>>} seen what a voter sees
+     * @param {(key: string[]) => string | null} [belowOf] the lines of the proved code that say what differs on the ballot of a style; null
+     *     where they are not known
+     * @param {import('./values.mjs').Names[] | null} names null where the files are too large for the names of objects to be known
+     * @param {Record<string, Record<string, string>>} [seen] what a voter sees
      */
-    constructor(entries, all, meanings, seen) {
+    constructor(entries, all, belowOf = () => null, names = null, seen = {}) {
         this.all = all;
-        this.meanings = meanings;
-        const { pairs, isCaused } = meanings === null || entries.length > MOST_PAIRED ? { pairs: [], isCaused: [] } : renamed(meanings, entries);
-        this.pairs = pairs;
-        this.entries = entries.map((entry, number) => ({ ...entry, number,
-            ...(meanings === null ? {} : { word: this.wordOf(seen, entry, isCaused[number] === true), isCaused: isCaused[number] === true,
-                isHidden: this.isHidden(entry) }) }));
-        this.groups = {
-            all: this.entries,
-            own: this.entries.filter((_, index) => !isCaused[index]),
-            caused: this.entries.filter((_, index) => isCaused[index]),
-            // For a record, which has some: those that weigh most for a voter come first.
-            filed: WORDS.flatMap((word) => this.entries.filter((entry) => entry.word === word)).concat(this.entries.filter(({ word }) => word === undefined)),
-        };
+        this.belowOf = belowOf;
+        this.names = names ?? UNNAMED;
+        this.hasWords = names !== null;
+        this.entries = entries.map((entry, number) => ({ ...entry, number, ...(this.hasWords ? { word: this.wordOf(seen, entry) } : {}) }));
+        this.kinds = kindsOf(this.entries);
+        // For a record, which has some: those that weigh most for a voter come first.
+        this.filed = this.hasWords ? WORDS.flatMap((word) => this.entries.filter((entry) => entry.word === word)) : this.entries;
     }
 
-    // What follows from another identifier alone is in doubt at most: it may be the same object. What is carried inside identifiers is
-    // in doubt, as all that is carried.
-    wordOf(seen, entry, isCaused) {
-        const word = entry.member === 'ExternalIdentifier' && this.carriesOther(entry) ? 'in doubt' : wordOf(seen, entry, this.classOf(entry));
-        return isCaused && word === 'seen' ? 'in doubt' : word;
-    }
-
-    // Whether the identifiers of an object carry something else in the two files.
-    carriesOther({ part, key }) {
-        const carried = this.meanings.map((meaning) => (meaning.thing(part, key).object.ExternalIdentifier ?? [])
-            .map(({ Type: _type, OtherType: _other, Value: _value, ...others }) => compactText(others)).filter((text) => text !== PLAIN).sort());
-        return carried[0].join('\n') !== carried[1].join('\n');
-    }
-
-    // Whether no ballot of either file shows a member of this object.
-    isHidden({ part, key, how, member }) {
-        return how === 'member' && this.meanings.every((meaning) => !showsOf(meaning, meaning.thing(part, key), member));
-    }
-
-    classOf({ part, key }) {
-        const [thing] = this.meanings.map((meaning) => meaning.thing(part, key)).filter((one) => one !== undefined);
-        return thing.className;
+    // What is carried inside identifiers is in doubt, as all that is carried.
+    wordOf(seen, entry) {
+        if (entry.member === 'ExternalIdentifier' && carriedIn(entry.values.left) !== carriedIn(entry.values.right)) {
+            return 'in doubt';
+        }
+        const [one] = this.names.map((ofSide) => ofSide(entry.part, entry.key)).filter((found) => found !== undefined);
+        return wordOf(seen, entry, one.className);
     }
 
     /**
      * What is known of all differences together, and the first one.
-     * @param {{all: number, differing: number, alike: number} | null} ballots how many ballot styles there are, how many of them differ, and how
-     *     many of these look the same here; null where that is not known
+     * @param {{all: number, differing: number} | null} ballots how many ballot styles there are, and how many of them differ; null where
+     *     that is not known
      */
     told(ballots) {
         return {
             count: this.all,
             listed: this.entries.length,
             first: this.shown(this.entries[0]),
-            seen: this.meanings === null || ballots === null ? null : { ...countsOf(this.entries.map(({ word }) => word)), ballots,
-                leftOut: leftOutOf(this.entries, ballots), noBallot: unseenOf(this.entries) },
+            seen: !this.hasWords || ballots === null ? null : { ballots, ...notOnBallots(this.entries, ballots.differing) },
             tallies: talliesOf(this.entries),
-            pairs: this.pairs,
-            kinds: kindsOf(this.groups.own).map(({ entries, ...kind }) => ({ ...kind, count: entries.length })),
-            counts: { own: this.groups.own.length, caused: this.groups.caused.length },
+            kinds: counted(this.kinds),
         };
     }
 
-    /** Some differences of a group, or of one kind in it. */
-    some({ group, kind, from, count }) {
-        const entries = kind === undefined ? this.groups[group] : kindsOf(this.groups[group])[kind].entries;
+    /** Some of all differences, of those of one kind, or of those of a record. */
+    some({ kind, isFiled = false, from, count }) {
+        const entries = kind === undefined ? (isFiled ? this.filed : this.entries) : this.kinds[kind].entries;
         return entries.slice(from, from + count).map((entry) => this.shown(entry));
     }
 
     shown(difference) {
-        const { selections: _selections, ...entry } = difference;
-        const inside = insideOf(this.meanings, difference);
-        return { ...entry, ...(this.meanings === null ? {} : this.valuesOf(entry)), ...(inside === undefined ? {} : { inside }) };
-    }
-
-    // Those rows of both values that a reader needs, and which side has none.
-    valuesOf(entry) {
-        const { rows, ...values } = rowsOfDifference(this.meanings, entry);
-        return rows === null ? { ...values, rows } : { ...values, rows: shownRows(rows),
-            lacking: ['left', 'right'].map((side) => rows.every((row) => row[side] === null)) };
-    }
-
-    /**
-     * The type under which the fewest objects stay unmatched, if they are fewer than now; null if there is none.
-     * @param {string[]} types
-     * @param {(type: string) => boolean} isAccepted whether both files are accepted under it
-     * @returns {{type: string, fewer: number, count: number} | null}
-     */
-    betterType(types, isAccepted) {
-        if (this.meanings === null) {
-            return null;
-        }
-        const count = this.unmatched(this.meanings[0].prefer);
-        const better = types.map((type) => ({ type, fewer: this.unmatched(type), count })).filter(({ fewer }) => fewer < count);
-        return better.sort((one, other) => one.fewer - other.fewer).find(({ type }) => isAccepted(type)) ?? null;
-    }
-
-    // How many objects of one file have no object with their key in the other one.
-    unmatched(type) {
-        const [left, right] = this.meanings.map((meaning) => meaning.keysUnder(type));
-        const lacking = (keys, others) => [...keys].filter((key) => !others.has(key)).length;
-        return [...left].reduce((sum, [part, keys]) => sum + lacking(keys, right.get(part)) + lacking(right.get(part), keys), 0);
+        const { selections: _selections, values: _values, ...entry } = difference;
+        const inside = insideOf(difference, this.names, this.belowOf);
+        return { ...entry, ...rowsOfDifference(difference, this.names), ...(inside === undefined ? {} : { inside }) };
     }
 }
 
-/** The first differences, up to one that can't be told without the objects: their classes are not in the proved list. */
-export function beginningOf(differences, most) {
-    const first = differences.slice(0, most);
-    const end = first.findIndex(({ how }) => how === 'other class');
-    return (end < 0 ? first : first.slice(0, end)).map(({ selections: _selections, ...entry }) => entry);
+/**
+ * What a voter may see and the ballots of the proved code don't tell, and what no ballot shows, by kinds with their counts. Where no ballot
+ * differs a voter may see all else, and otherwise what is in doubt and what differs in an election.
+ * @param {{part: string, how: string, member?: string, word: string}[]} entries
+ * @param {number} differing how many ballots differ
+ */
+export function notOnBallots(entries, differing) {
+    const mostFirst = (some) => counted(kindsOf(some)).sort((one, other) => other.count - one.count);
+    const unseen = entries.filter(({ word }) => word === 'unseen');
+    const leftOut = entries.filter(({ part, word }) => word !== 'unseen' && (differing === 0 || word === 'in doubt' || part === 'election'));
+    return { leftOut: mostFirst(leftOut), noBallot: mostFirst(unseen), unseen: unseen.length };
+}
+
+function counted(kinds) {
+    return kinds.map(({ entries, ...kind }) => ({ ...kind, count: entries.length }));
+}
+
+// One text for what identifiers carry.
+function carriedIn(identifiers = []) {
+    return identifiers.map(({ Type: _type, OtherType: _other, Value: _value, ...others }) => compactText(others)).filter((text) => text !== PLAIN)
+        .sort().join('\n');
+}
+
+/**
+ * How many objects of each part differ, and how, in the order of the list.
+ * @param {{part: string, key: string[] | null, how: string}[]} entries
+ * @returns {{part: string, 'only left': number, 'only right': number, differ: number, members: number}[]}
+ */
+export function talliesOf(entries) {
+    const tallies = new Map();
+    let last = null;
+    for (const { part, key, how } of entries) {
+        const tally = tallies.get(part) ?? { part, 'only left': 0, 'only right': 0, differ: 0, members: 0 };
+        tallies.set(part, tally);
+        const object = JSON.stringify([part, key]);
+        if (how === 'only left' || how === 'only right') {
+            tally[how]++;
+        } else {
+            tally.differ += object === last ? 0 : 1;
+            tally.members += how === 'member' ? 1 : 0;
+        }
+        last = object;
+    }
+    return [...tallies.values()];
 }
 
 // The differences by their kinds, in the order of the list: of which objects they are, and what differs.

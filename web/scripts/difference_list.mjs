@@ -1,14 +1,12 @@
-// The list of all differences: how many objects of each kind differ, what is the same under another identifier, and the rest.
-import { differenceEntry, memberWords, object } from './comparison.mjs';
+// The list of all differences: how many objects of each kind differ, and each difference.
+import { differenceEntry, memberWords } from './comparison.mjs';
 import { button, element, saidWith, theirs } from './dom.mjs';
 import { GrowingList } from './growing.mjs';
 import { folded } from './on_request.mjs';
 import { numberText, say } from './texts.mjs';
-import { textOfTriple } from './values.mjs';
 
 const AT_ONCE = 50;
 const MOST_KINDS = 200;
-const MOST_PAIRS = 50;
 
 /**
  * The section of all differences.
@@ -17,22 +15,21 @@ const MOST_PAIRS = 50;
  * @param {string[]} names
  */
 export async function differenceList(client, listed, names) {
-    const { count, tallies, pairs, counts, seen, kinds } = listed;
+    const { count, tallies, seen, kinds } = listed;
     if (count === 1) {
         return element('p', {}, say('difference.noOthers'));
     }
     const counted = new Counted(listed);
-    const isLong = counts.own > AT_ONCE && kinds.length > 1 && kinds.length <= MOST_KINDS;
-    const own = counts.own === 0 ? [] : isLong ? kinds.map((kind, at) => kindShown(client, kind, at, names, counted))
-        : await growing(client, { group: 'own' }, counts.own, names, counted);
+    const isLong = listed.listed > AT_ONCE && kinds.length > 1 && kinds.length <= MOST_KINDS;
+    const entries = isLong ? kinds.map((kind, at) => kindShown(client, kind, at, names, counted)) : await growing(client, {}, listed.listed, names, counted);
     return element('section', { 'aria-labelledby': 'all-differences', class: 'others' },
         element('h3', { id: 'all-differences' }, say('difference.all', { count })),
         element('p', { class: 'note' }, say(listed.listed < count ? 'difference.provedPart' : 'difference.proved')),
         seen === null ? null : element('p', { class: 'note' }, say('difference.notProved')),
-        talliesShown(tallies, names), counted.holder, ...own, ...await pairsShown(client, pairs, counts.caused, names, counted));
+        talliesShown(tallies, names), counted.holder, ...entries);
 }
 
-/** The beginning of the list while the values of the differences are looked up. */
+/** The beginning of the list while the names of objects are looked up. */
 export function listBegun(entries, count, names) {
     return element('section', { 'aria-labelledby': 'all-differences' }, element('h3', { id: 'all-differences' }, say('difference.all', { count })),
         element('p', { class: 'note' }, say('difference.begun')),
@@ -41,11 +38,11 @@ export function listBegun(entries, count, names) {
 
 // Counts the differences that are shown, each by its number in the proved list, and holds the count against that list.
 class Counted {
-    constructor({ count, listed, counts }) {
+    constructor({ count, listed, kinds }) {
         Object.assign(this, { count, listed });
         this.numbers = new Set();
         this.holder = element('div', {});
-        this.isRight = counts.own + counts.caused === listed && listed <= count;
+        this.isRight = listed <= count && kinds.reduce((sum, kind) => sum + kind.count, 0) === listed;
         this.tell();
     }
 
@@ -72,7 +69,7 @@ class Counted {
 function kindShown(client, { part, how, member, count }, at, names, counted) {
     const nodes = { member: memberWords(member ?? ''), left: theirs(names[0]), right: theirs(names[1]) };
     const summary = [saidWith(`kind.${how}`, nodes, { parts: say(`parts.${part}`) }), ' ', element('span', { class: 'badge' }, numberText(count))];
-    return folded({ class: 'kind' }, summary, () => growing(client, { group: 'own', kind: at }, count, names, counted));
+    return folded({ class: 'kind' }, summary, () => growing(client, { kind: at }, count, names, counted));
 }
 
 async function growing(client, which, count, names, counted) {
@@ -101,40 +98,6 @@ function talliesShown(tallies, names) {
         element('table', { class: 'tallies' }, element('caption', { class: 'visually-hidden' }, say('tally.caption')),
             element('thead', {}, element('tr', {}, ...heads.map((head) => element('th', { scope: 'col' }, head)))),
             element('tbody', {}, ...rows)));
-}
-
-// Objects that are the same under another identifier, and the differences that follow from this alone.
-async function pairsShown(client, pairs, caused, names, counted) {
-    if (pairs.length === 0) {
-        return [];
-    }
-    const items = pairs.slice(0, MOST_PAIRS).map(({ part, keys, titles }) => element('li', {}, saidWith('pair.entry', {
-        object: object(part, titles, null),
-        left: theirs(textOfTriple(keys[0])), right: theirs(textOfTriple(keys[1])),
-    })));
-    const more = pairs.length > MOST_PAIRS ? element('p', {}, say('pair.more', { count: pairs.length - MOST_PAIRS })) : null;
-    const followed = folded({}, say('pair.caused', { count: caused }), () => growing(client, { group: 'caused' }, caused, names, counted));
-    return [element('section', { class: 'pairs', 'aria-labelledby': 'pairs' }, element('h4', { id: 'pairs' }, say('pair.heading', { count: pairs.length })),
-        element('p', {}, say('pair.note')), element('ul', {}, ...items), ...(more === null ? [] : [more]), followed)];
-}
-
-/**
- * The offer of a view without the identifiers that only one file has; null if there are none.
- * @param {string[][]} types the types that only one file has, of each file
- * @param {string[]} names
- * @param {() => void} choose
- */
-export function ownOffer(types, names, choose) {
-    const lines = types.map((some, index) => (some.length === 0 ? null : element('li', {}, saidWith('own.types', {
-        name: theirs(names[index]), types: theirs(some.join(', ')) })))).filter((line) => line !== null);
-    return lines.length === 0 ? null : element('section', { class: 'offer own-offer', 'aria-labelledby': 'own-offer' },
-        element('h3', { id: 'own-offer' }, say('own.heading')), element('ul', {}, ...lines), button(say('own.choose'), choose, { id: 'own-choose' }));
-}
-
-/** What the own view says, in a sentence. */
-export function ownSentence({ types, count }) {
-    const key = count === null ? 'own.refused' : count === 0 ? 'own.same' : 'own.different';
-    return saidWith(key, { types: theirs([...new Set(types.flat())].join(', ')) }, { count: count ?? 0 });
 }
 
 /**

@@ -1,7 +1,6 @@
 // What a record has of the differences or the faults, in print: the first hundred, and how many there are.
-import { insideSentence, movedWords, sentence } from './comparison.mjs';
+import { insideSentence, sentence } from './comparison.mjs';
 import { element, saidWith, theirs } from './dom.mjs';
-import { headsOf } from './shown_rows.mjs';
 import { say } from './texts.mjs';
 import { passageOf, shortened } from './visible.mjs';
 
@@ -26,38 +25,28 @@ export function differencesFiled(entries, { count, listed }, names) {
         element('ol', {}, ...items), leftOut(count - items.length));
 }
 
-// What differs inside selections, or else the values of a member.
+// What differs inside selections or on a ballot, or else the values of a member.
 function linesOf(entry, names) {
     if (entry.inside === undefined || entry.inside === null) {
         return [...(entry.inside === null ? [say('inside.notTold')] : []), ...valuesOf(entry)];
     }
     const { count, entries } = entry.inside;
+    if (count === 0) {
+        return [say('inside.carried')];
+    }
     const shown = entries.slice(0, MOST_INSIDE).map((one) => insideSentence(one, names));
     return count === shown.length ? shown : [...shown, say('inside.more', { count: count - shown.length })];
 }
 
-// The values of a member, each with the contest or header that it stands below, and why two of them look alike.
+// The values of a member, and why two of them look alike.
 function valuesOf({ rows }) {
-    const changed = changedLines((rows ?? []).filter(({ same }) => same !== undefined));
+    const changed = (rows ?? []).filter(({ same }) => same === false);
     const more = changed.length - MOST_ROWS + (rows?.at(-1)?.more ?? 0);
-    return [...changed.slice(0, MOST_ROWS).flatMap(({ heads, row }) => valueLines(heads, row)), ...(more > 0 ? [say('record.more', { count: more })] : [])];
+    return [...changed.slice(0, MOST_ROWS).flatMap(valueLines), ...(more > 0 ? [say('record.more', { count: more })] : [])];
 }
 
-function valueLines(heads, { left, right, moved, pieces, alike = [] }) {
-    const place = heads.map((line) => saidWith('record.below', { head: theirs(line.text) }));
-    const told = moved === undefined ? saidWith('record.values', { left: valueOf(left, pieces?.left), right: valueOf(right, pieces?.right) })
-        : element('span', {}, valueOf(left), ' ', movedWords(moved));
-    return [element('span', {}, ...place, told), ...alike.map((way) => say(`alike.${way}`))];
-}
-
-// The rows that differ, each with the lines above it. What stands below a line that only one file has is told with it.
-function changedLines(rows) {
-    const heads = headsOf(rows);
-    const isOneSided = ({ left, right }) => left === null || right === null;
-    const above = (at) => (heads[at] === null ? [] : [...above(heads[at]), heads[at]]);
-    return rows.map((row, at) => ({ row, above: above(at).map((head) => rows[head]) }))
-        .filter(({ row, above: some }) => !row.same && !some.some((head) => !head.same && isOneSided(head)))
-        .map(({ row, above: some }) => ({ row, heads: some.map(({ left, right }) => right ?? left) }));
+function valueLines({ left, right, pieces, alike = [] }) {
+    return [saidWith('record.values', { left: valueOf(left, pieces?.left), right: valueOf(right, pieces?.right) }), ...alike.map((way) => say(`alike.${way}`))];
 }
 
 // A line; of a long one what differs, with some words around it.

@@ -3,25 +3,31 @@
 import { BallotAnswers } from './ballot_answers.mjs';
 import { BallotFindings } from './ballot_findings.mjs';
 import { boundedPointer, LONGEST_POINTER } from './bounded.mjs';
-import { beginningOf, Differences } from './difference_groups.mjs';
+import { Differences } from './difference_groups.mjs';
 import { excerptOf } from './excerpt.mjs';
 import { Meaning } from './meaning.mjs';
 import { foundPlaces } from './places.mjs';
 import { Overview } from './overview.mjs';
-import { ownTypes, typesTold, withoutTypes } from './own_view.mjs';
 import { Preparing } from './preparing.mjs';
 import { isNoMemory, Side } from './side.mjs';
+import { textOfKey } from '../../bindings/js/lib/order.mjs';
 import { trailOf } from './trail.mjs';
 import { shortened } from './visible.mjs';
 
-/** The most bytes of two canonical forms of which values are shown beside each other. */
-const MOST_WITH_VALUES = 80_000_000;
+/** The most bytes of two canonical forms that are read for the names of objects. */
+const MOST_WITH_NAMES = 80_000_000;
 
 /** The most characters of a pointer that the page is told. */
 const LONGEST_TOLD = 100_000;
 
-/** The most differences that are listed. Each call lists a mebibyte of them, and compares the files anew. */
+/** The most differences of a list that is listed whole, and the bytes with their values from which on no more are listed: of any list, and of
+ * such a list. */
 const MOST_LISTED = 20_000;
+const ENOUGH_AT_ONCE = 2 ** 20;
+const ENOUGH_LISTED = 2 ** 25;
+
+/** Under how many other types of identifier the files are compared. */
+const MOST_TYPES = 8;
 
 /** The most bytes of a file whose list of differences is made with the verdict: a list takes more memory than the first difference. */
 const MOST_AT_ONCE = 4_000_000;
@@ -32,9 +38,9 @@ function shortStep({ name, number, title }) {
     return { name: short(name), number, title: short(title) };
 }
 
-// Whether a list that was asked for has all entries that are wanted. A piece of it may have fewer, where they are long.
-function isEnough({ side, differences, allDifferences }, most) {
-    return side !== null || differences.length === allDifferences || allDifferences > most;
+// Whether a list that was asked for is whole, or too long to be listed whole.
+function isEnough(found) {
+    return found === null || !found.more || found.allDifferences > MOST_LISTED;
 }
 
 /** A judgement of one file or two, under one preference. */
@@ -104,11 +110,11 @@ export class Judgement {
     // where it does not: for other files, and where there is no memory for the list.
     comparedAtOnce() {
         const isSmall = this.sides.every(({ bytes }) => bytes.length <= MOST_AT_ONCE);
-        const found = isSmall ? this.unlessNoMemory(() => this.differencesAsked(this.prefer, MOST_LISTED)) : null;
+        const found = isSmall ? this.differencesUpTo(ENOUGH_AT_ONCE) : null;
         if (found === null || found.side !== null) {
             return null;
         }
-        this.keptProved = isEnough(found, MOST_LISTED) ? found : undefined;
+        this.keptProved = isEnough(found) ? found : undefined;
         return { side: null, same: found.same, difference: found.differences[0] };
     }
 
@@ -119,7 +125,8 @@ export class Judgement {
         if (compared === null) {
             return { noMemory: true };
         }
-        return compared.same ? { same: true } : { same: false, first: compared.difference };
+        const { values: _values, selections: _selections, ...first } = compared.difference ?? {};
+        return compared.same ? { same: true } : { same: false, first };
     }
 
     /** The sums of each file and of its canonical form, and what is known of its envelope and of its identifiers. */
@@ -135,21 +142,23 @@ export class Judgement {
     /** What is known of all differences: the proved list, and what helps to read it. Null where there is no memory for the list. */
     list(_question, tell) {
         const differences = this.differencesKept(tell);
-        return differences === null ? null : differences.told(differences.meanings === null ? null : this.unlessNoMemory(() => this.ballots(tell).seen()));
+        return differences === null ? null : differences.told(differences.hasWords ? this.unlessNoMemory(() => this.ballots(tell).seen()) : null);
     }
 
-    /** How many differences there are, and the first of them without their values, as soon as the proved code has them; null where there
-     * is no memory for the list. */
+    /** How many differences there are, and the first of them without the names of objects, as soon as the proved code has them; null where
+     * there is no memory for the list. */
     begun({ most }, tell) {
         const proved = this.proved(tell);
-        return proved === null ? null : { count: proved.allDifferences, entries: beginningOf(proved.differences, most) };
+        return proved === null ? null : { count: proved.allDifferences,
+            entries: new Differences(proved.differences.slice(0, most), proved.allDifferences).some({ from: 0, count: most }) };
     }
 
     // The proved list, or its beginning.
     proved(tell) {
         if (this.keptProved === undefined) {
             tell({ stage: 'listing' });
-            this.keptProved = this.differencesUnder(this.prefer, MOST_LISTED);
+            const found = this.differencesUpTo(ENOUGH_AT_ONCE);
+            this.keptProved = isEnough(found) ? found : this.differencesUpTo(ENOUGH_LISTED);
         }
         return this.keptProved;
     }
@@ -165,21 +174,22 @@ export class Judgement {
 
     differencesOf({ differences, allDifferences }, tell) {
         const forms = this.sides.map((side) => side.canonical(this.erd, this.prefer, tell));
-        const isShown = !forms.includes(null) && forms[0].length + forms[1].length <= MOST_WITH_VALUES;
-        return new Differences(differences, allDifferences, isShown ? this.meanings(tell) : null, this.seen);
+        const isNamed = !forms.includes(null) && forms[0].length + forms[1].length <= MOST_WITH_NAMES;
+        const names = isNamed ? this.meanings(tell).map((meaning) => meaning.names) : null;
+        return new Differences(differences, allDifferences, (key) => this.belowOf(key), names, this.seen);
     }
 
-    // The proved list under a type of identifier, or its beginning if it is longer than `most`; null if there is no memory for it.
-    differencesUnder(prefer, most) {
-        return this.unlessNoMemory(() => {
-            const found = this.differencesAsked(prefer, most);
-            return isEnough(found, most) ? found : this.differencesAsked(prefer, null);
-        });
-    }
-
-    differencesAsked(prefer, mostDifferences) {
+    // The proved list with its values, or its beginning; null if there is no memory for it.
+    differencesUpTo(enoughBytes) {
         const [left, right] = this.sides;
-        return this.erd.differencesWithoutValues(left.bytes, right.bytes, { prefer, mostDifferences });
+        return this.unlessNoMemory(() => this.erd.differencesUpTo(enoughBytes, left.bytes, right.bytes, { prefer: this.prefer, mostDifferences: MOST_LISTED }));
+    }
+
+    // The lines of the proved code that say what differs on the ballot of a style; null if there is no memory for them.
+    belowOf(key) {
+        const differing = this.unlessNoMemory(() => this.differingBallots());
+        this.keptBelow ??= differing && new Map(differing.map((style) => [textOfKey(style.key), style.below]));
+        return differing && (this.keptBelow.get(textOfKey(key)) ?? '');
     }
 
     // What a call answers; null if there is no memory for it.
@@ -194,38 +204,35 @@ export class Judgement {
         }
     }
 
-    // Whether both files are accepted under a type.
-    isAcceptedUnder(type) {
-        return this.differencesUnder(type, 1)?.side === null;
+    // How many objects of one file the other one has not under a type; null where the files are not accepted under it.
+    unmatched(prefer) {
+        const [left, right] = this.sides;
+        let count = 0;
+        for (const { side, differences } of this.erd.differencesByPieces(left.bytes, right.bytes, { prefer })) {
+            if (side !== null) {
+                return null;
+            }
+            count += differences.filter(({ how }) => how === 'only left' || how === 'only right').length;
+        }
+        return count;
     }
 
-    /** Some of the differences of a group, as what the page shows. */
+    /** Some of the differences, as what the page shows. */
     more(question, tell) {
         return this.differencesKept(tell).some(question);
     }
 
-    /** The type of identifier under which fewer objects stay unmatched than now; null if there is none. */
+    /** The type of identifier under which the fewest objects stay unmatched, if they are fewer than now; null if there is none. */
     betterType({ types }, tell) {
-        tell({ stage: 'types' });
-        return this.differencesKept(tell).betterType(types.filter((type) => type !== this.prefer), (type) => this.isAcceptedUnder(type));
-    }
-
-    /** The types of identifier that only one file has, of each file; null where the files are too large for that. */
-    ownTypes(_question, tell) {
-        if (this.differencesKept(tell)?.meanings == null) {
+        if (!this.differencesKept(tell).hasWords) {
             return null;
         }
-        this.keptTypes ??= ownTypes(this.meanings(tell).map(({ report }) => report));
-        return typesTold(this.keptTypes);
-    }
-
-    /** What the proved code says of copies without the identifiers of these types: null where it does not accept them. */
-    ownView(question, tell) {
-        const types = this.ownTypes(question, tell);
-        const copies = this.meanings(tell).map(({ report }, index) => withoutTypes(report, this.keptTypes[index]));
-        tell({ stage: 'comparing' });
-        const { side, allDifferences } = this.erd.differencesWithoutValues(...copies, { prefer: this.prefer, mostDifferences: 1 });
-        return { types, count: side === null ? allDifferences : null };
+        tell({ stage: 'types' });
+        const under = (type) => this.unlessNoMemory(() => this.unmatched(type));
+        const others = types.filter((type) => type !== this.prefer).slice(0, MOST_TYPES);
+        const count = others.length === 0 ? 0 : under(this.prefer);
+        const better = others.map((type) => ({ type, fewer: under(type), count })).filter(({ fewer }) => fewer !== null && fewer < count);
+        return better.sort((one, other) => one.fewer - other.fewer)[0] ?? null;
     }
 
     // What the canonical forms say.
@@ -247,7 +254,8 @@ export class Judgement {
     // Which ballots differ, by the proved code.
     differingBallots() {
         const { prefer } = this;
-        return this.sides.length < 2 ? [] : this.erd.toldOfBallots('erd_ballot_differences', this.sides.map(({ bytes }) => bytes), { prefer });
+        this.keptDiffering ??= this.sides.length < 2 ? [] : this.erd.toldOfBallots('erd_ballot_differences', this.sides.map(({ bytes }) => bytes), { prefer });
+        return this.keptDiffering;
     }
 
     /** What a file has, in counts. */

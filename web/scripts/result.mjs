@@ -1,10 +1,9 @@
 // What the page shows of one judgement: the verdict as soon as it is there, and then all that follows from it.
-import { attempted } from './attempts.mjs';
 import { BallotList } from './ballot_list.mjs';
 import { BallotSentences } from './ballot_sentences.mjs';
 import { cardOf } from './card.mjs';
 import { firstDifference, useExplanations } from './comparison.mjs';
-import { differenceList, listBegun, ownOffer, ownSentence, typeOffer } from './difference_list.mjs';
+import { differenceList, listBegun, typeOffer } from './difference_list.mjs';
 import { button, element, saidWith, theirs } from './dom.mjs';
 import { convertedNotices } from './from_xml/shown.mjs';
 import { differencesFiled, faultsFiled, MOST_FILED } from './findings.mjs';
@@ -22,7 +21,7 @@ const PARTS = ['verdict', 'notices', 'copies', 'seen', 'sentences', 'offer', 'di
 /** The bytes of a canonical form from which on the card is made only when it is opened. */
 const LARGE = 10_000_000;
 
-/** How many differences are shown before their values are known, where there are at least so many that this takes time. */
+/** How many differences are shown before the names of objects are known, where there are at least so many that this takes time. */
 const FIRST_SHOWN = 50;
 const MANY = 1000;
 
@@ -63,7 +62,7 @@ export class Result {
         return this.verdictShown.title;
     }
 
-    // How many differences there are, and of very many the first ones, before anything is known of their values.
+    // How many differences there are, and of very many the first ones, before the names of objects are known.
     async showBeginning() {
         const begun = await this.client.ask('begun', { most: FIRST_SHOWN }, this.tell);
         if (this.isCurrent() && begun?.count > 1) {
@@ -147,29 +146,7 @@ export class Result {
         const better = await this.client.ask('betterType', { types: this.types }, this.tell);
         if (this.isCurrent()) {
             this.put('offer', better === null ? null : typeOffer(better, this.prefers));
-            await this.offerOwnView();
         }
-    }
-
-    // A view without the identifiers that only one file has. It stands below the verdict, and in the record.
-    async offerOwnView() {
-        const types = await this.client.ask('ownTypes', {}, this.tell);
-        const offer = types === null || !this.isCurrent() ? null : ownOffer(types, this.names, () => attempted(this.parts.offer, () => this.showOwnView()));
-        if (offer !== null) {
-            this.parts.offer.append(offer);
-        }
-    }
-
-    async showOwnView() {
-        this.ownView = await this.client.ask('ownView', {}, this.tell);
-        if (!this.isCurrent()) {
-            return;
-        }
-        this.parts.offer.querySelector('.own-offer')?.remove();
-        this.parts.verdict.append(element('section', { class: 'notice own-view', 'aria-labelledby': 'own-view' },
-            element('h3', { id: 'own-view', tabindex: '-1' }, ownSentence(this.ownView)), element('p', {}, say('own.note'))));
-        document.getElementById('own-view').focus();
-        await this.showRecord();
     }
 
     // What stands right below the verdict, and the envelopes behind it.
@@ -194,7 +171,6 @@ export class Result {
             })),
             names: this.names, prefer: this.prefer,
             version: this.data.version, pageSum: this.data.pageSum, verdict: this.verdictShown.title, date: this.date, findings, listed: this.listed,
-            ownView: this.ownView,
             notices: [...this.parts.notices.querySelectorAll('h3')].map((heading) => heading.cloneNode(true).childNodes),
         }, this.client));
     }
@@ -225,7 +201,7 @@ export class Result {
     // What the record has of the differences or the faults.
     async findings() {
         if (this.listed) {
-            const entries = await this.client.ask('more', { group: 'filed', from: 0, count: MOST_FILED });
+            const entries = await this.client.ask('more', { isFiled: true, from: 0, count: MOST_FILED });
             return differencesFiled(entries, this.listed, this.names);
         }
         const refused = this.answer.files.map((file, index) => ({ ...file, index })).filter(({ outcome }) => outcome === 'refused');

@@ -1,74 +1,67 @@
-// A difference with the values of both sides beside each other.
+// A difference of the proved list as the page shows it: what the object is called, and the values of both sides beside each other.
 import { aligned } from './alignment.mjs';
 import { whyAlike } from './look_alikes.mjs';
-import { orderedChanges } from './order_changes.mjs';
 import { piecesOfBoth } from './text_changes.mjs';
-import { jsonLines, Values } from './values.mjs';
+import { titleOf } from './trail.mjs';
+import { jsonLines, linesOf } from './values.mjs';
+
+const ROWS_AROUND = 2;
+/** The most rows of one difference that are shown. */
+const MOST_ROWS = 400;
 
 /**
- * What the page shows of a difference: what the object is called, and the rows of both values.
- * @param {import('./meaning.mjs').Meaning[]} meanings the left one and the right one
+ * What the page shows of a difference: what the object is called, its classes if it is an object that differs, and if it is a member the
+ * rows of both values, which side has none, and which side's is empty. A member whose values the list does not tell has no rows.
+ * @param {import('../../bindings/js/index.d.ts').Difference} difference
+ * @param {import('./values.mjs').Names[]} names of the left report and of the right one
  */
-export function rowsOfDifference(meanings, { part, key, how, member }) {
-    const things = meanings.map((meaning) => meaning.thing(part, key));
-    return {
-        titles: things.map((thing) => thing?.title ?? null),
-        classes: things.map((thing) => thing?.className ?? null),
-        rows: how === 'member' ? rowsOfMember(meanings, things, member).map(withPieces) : null,
-        there: how === 'member' ? things.map((thing) => isThere(thing, member)) : null,
-    };
+export function rowsOfDifference({ part, key, how, member, values }, names) {
+    const sides = [values?.left, values?.right];
+    if (how !== 'member') {
+        return { titles: sides.map((record) => (record === undefined ? null : titleOf(record.members))), rows: null,
+            classes: sides.map((record) => record?.class.replace('ElectionResults.', '') ?? null) };
+    }
+    const titles = names.map((ofSide) => ofSide(part, key)?.title ?? null);
+    if (values === undefined) {
+        return { titles };
+    }
+    const lines = sides.map((value, at) => (value === undefined ? [] : linesOf(member, value, names[at])));
+    return { titles, rows: shownRows(rowsOfMember(sides, lines)), there: sides.map((value) => value !== undefined),
+        lacking: lines.map((some) => some.length === 0) };
 }
 
 // Two values may differ in what the lines for a reader leave out. Then their JSON is shown, with keys in place of references.
-function rowsOfMember(meanings, things, member) {
-    const rows = rowsForReader(meanings, things, member);
-    const isTold = rows.some((row) => !row.same) || things.some((thing) => !isThere(thing, member));
-    return isTold ? rows : aligned(...things.map((thing, side) => jsonLines(meanings[side].withKeys(member, thing.object[member]))));
-}
-
-function rowsForReader(meanings, things, member) {
-    const values = meanings.map((meaning) => new Values(meaning));
-    if (member === 'OrderedContent') {
-        return rowsOfContent(...values.map((one, side) => one.content(things[side].object[member] ?? [])), 0);
-    }
-    return aligned(...values.map((one, side) => one.ofMember(things[side], member)));
-}
-
-function isThere(thing, member) {
-    return member === 'ElectionId' ? thing.election !== null : Object.hasOwn(thing.object, member);
-}
-
-/**
- * The rows of two lists whose order counts: each entry, and below it its selections and what is carried with it. An entry that is on
- * both sides, at another place, is one row that says so.
- * @param {import('./values.mjs').Part[]} left
- * @param {import('./values.mjs').Part[]} right
- * @param {number} below how far all of them are indented
- */
-export function rowsOfContent(left, right, below) {
-    return orderedChanges(left, right).flatMap(({ left: one, right: other, mark, from, to }) => {
-        const indent = below + (other ?? one).depth;
-        const moved = mark === 'moved' ? { moved: { from, to } } : {};
-        const head = { left: lineOf(one, from, indent), right: lineOf(other, to, indent), same: mark === '', ...moved };
-        return [head, ...rowsOfContent(one?.selections ?? [], other?.selections ?? [], indent + 1),
-            ...aligned(one?.carried ?? [], other?.carried ?? []).map((row) => indentedBy(row, indent))];
-    });
-}
-
-function lineOf(part, number, indent) {
-    return part === null ? null : { ...part.line, number, indent };
-}
-
-function indentedBy({ left, right, ...row }, indent) {
-    const [one, other] = [left, right].map((line) => (line === null ? null : { ...line, indent: line.indent + indent }));
-    return { left: one, right: other, ...row };
+function rowsOfMember(sides, lines) {
+    const rows = aligned(...lines);
+    const isTold = rows.some(({ same }) => !same) || sides.includes(undefined);
+    return (isTold ? rows : aligned(...sides.map(jsonLines))).map(withPieces);
 }
 
 // What differs within two lines, and why they look alike if they do.
 function withPieces(row) {
-    const { left, right, same, moved } = row;
-    if (same || moved !== undefined || left === null || right === null) {
-        return row;
+    const { left, right, same } = row;
+    return same || left === null || right === null ? row : { ...row, pieces: piecesOfBoth(left.text, right.text), alike: whyAlike(left.text, right.text) };
+}
+
+/**
+ * Of many rows those that differ, with some equal rows around them, and a count in place of those that are left out: `equal` counts rows
+ * that are equal, and `more` the rows that differ and are left out at the end.
+ */
+export function shownRows(rows) {
+    const shown = [];
+    const leftOut = (count) => (count === 0 ? [] : [{ equal: count }]);
+    let equal = 0;
+    for (const [at, row] of rows.entries()) {
+        if (rows.slice(Math.max(0, at - ROWS_AROUND), at + ROWS_AROUND + 1).every(({ same }) => same)) {
+            equal++;
+            continue;
+        }
+        if (shown.length >= MOST_ROWS) {
+            const more = rows.slice(at).filter(({ same }) => !same).length;
+            return [...shown, ...(more > 0 ? [{ more }] : leftOut(equal + rows.length - at))];
+        }
+        shown.push(...leftOut(equal), row);
+        equal = 0;
     }
-    return { ...row, pieces: piecesOfBoth(left.text, right.text), alike: whyAlike(left.text, right.text) };
+    return [...shown, ...leftOut(equal)];
 }

@@ -27,11 +27,6 @@ export function wordOf(table, { part, how, member }, className) {
     return Object.hasOwn(table[className], member) ? table[className][member] : 'in doubt';
 }
 
-/** How often each word is there. */
-export function countsOf(words) {
-    return Object.fromEntries(WORDS.map((word) => [word, words.filter((one) => one === word).length]));
-}
-
 // What the page shows of ballots: the members of each part.
 const SHOWN = {
     election: ['Name', 'StartDate'], unit: ['Name'], party: ['Name'], header: ['Name'], candidate: ['BallotName', 'PartyId', 'IsTopTicket', 'IsIncumbent'],
@@ -54,32 +49,4 @@ export function showsOf(meaning, thing, member) {
 
 function isShownOf(part, member) {
     return Object.hasOwn(SHOWN, part) && SHOWN[part].includes(member);
-}
-
-/**
- * What a voter may see and the ballots of the page don't show, in groups with their counts.
- * @param {{part: string, how: string, member?: string, word: string, isCaused: boolean, isHidden: boolean}[]} entries one that `isHidden` is of
- *     an object whose member no ballot shows
- * @param {{differing: number, alike: number}} ballots how many ballots differ, and how many of these look the same. Ballots that look the
- *     same show none of the differences, but for those that follow from another identifier alone; ballots that are the same show none
- */
-export function leftOutOf(entries, { differing, alike }) {
-    return groupsOf(entries.filter(({ part, how, member, word, isCaused, isHidden }) => {
-        const isShown = differing > alike || (differing > 0 && isCaused);
-        return word !== 'unseen' && !(isShown && !isHidden && (how === 'member' ? isShownOf(part, member) : Object.hasOwn(SHOWN, part)));
-    }));
-}
-
-/** What no ballot shows, in groups with their counts. */
-export function unseenOf(entries) {
-    return groupsOf(entries.filter(({ word }) => word === 'unseen'));
-}
-
-function groupsOf(entries) {
-    const groups = new Map();
-    for (const { part, how, member = null } of entries) {
-        const key = JSON.stringify([part, how, member]);
-        groups.set(key, { part, how, member, count: (groups.get(key)?.count ?? 0) + 1 });
-    }
-    return [...groups.values()].sort((one, other) => other.count - one.count);
 }

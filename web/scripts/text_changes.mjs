@@ -47,7 +47,7 @@ function wordsOf(text) {
 }
 
 function lineOf(text) {
-    return { text, like: text, indent: 0 };
+    return { text, like: text };
 }
 
 // Neighbouring rows that are all equal, or all not.

@@ -13,13 +13,13 @@ export function trailOf(found, place) {
         const name = typeof place[at] === 'string' ? place[at] : null;
         const goesToEntry = name === null || typeof place[at + 1] === 'number';
         at += goesToEntry && name !== null ? 1 : 0;
-        const title = found === null || !goesToEntry ? null : titleOf(found, at + 1);
+        const title = found === null || !goesToEntry ? null : titleAt(found, at + 1);
         trail.push({ name, number: goesToEntry ? place[at] + 1 : null, title });
     }
     return trail;
 }
 
-function titleOf(found, steps) {
+function titleAt(found, steps) {
     for (const name of ['Name', 'BallotName', 'FullName', 'LastName', 'Selection', 'Language']) {
         const title = textOfLabel(found.title(steps, name));
         if (title !== null) {
@@ -28,6 +28,12 @@ function titleOf(found, steps) {
     }
     const value = found.title(steps, 'Value');
     return isText(value) ? [found.title(steps, 'Type'), value].filter(isText).join(' ') : null;
+}
+
+/** What an object with these members is called; null if it has no name. */
+export function titleOf({ Name, BallotName, FullName, FirstName, LastName }) {
+    const title = [Name, BallotName, FullName].map(textOfLabel).find((text) => text !== null);
+    return title ?? ([FirstName, LastName].filter(Boolean).join(' ') || null);
 }
 
 /** The text of a label: the label itself, or its first text, an English one if there is one. */

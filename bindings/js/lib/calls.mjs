@@ -80,10 +80,13 @@ export class Erd {
         return differencesOf(taken, all);
     }
 
-    /** Lists the differences of two reports without their values, so that more of them fit into a piece. The page asks so. */
-    differencesWithoutValues(left, right, options) {
-        const asked = askedFor(options, 'mostDifferences');
-        const { taken, all } = this.#list('erd_differences_data', pairOf(left, right), asked);
+    /** Lists the differences of two reports, but none once those before it have so many bytes with their values. */
+    differencesUpTo(enoughBytes, left, right, options) {
+        const { prefer, most } = askedFor(options, 'mostDifferences');
+        const reports = pairOf(left, right);
+        checkLengths(reports);
+        const piece = { first: 0, most: most ?? ALL, enoughBytes };
+        const { taken, all } = checked(this.#engine.call('erd_differences_values', reports, prefer, piece, readExactly));
         return differencesOf(taken, all);
     }
 
@@ -193,6 +196,14 @@ export class Erd {
         const { prefer } = askedFor(options, 'mostFaults');
         for (const { taken, all } of this.#pieces('erd_check_data_piece', [bytesOf(report, 'the report')], prefer, readExactly)) {
             yield checkedOf(taken, all);
+        }
+    }
+
+    /** The differences of two reports without their values, piece by piece, as `checkedByPieces` has faults. */
+    *differencesByPieces(left, right, options) {
+        const { prefer } = askedFor(options, 'mostDifferences');
+        for (const { taken, all } of this.#pieces('erd_differences_data', pairOf(left, right), prefer, readExactly)) {
+            yield differencesOf(taken, all);
         }
     }
 

@@ -10,6 +10,11 @@ export function readExactly(bytes) {
     return /\d{16}/.test(text) ? new ExactReader(bytes).read() : JSON.parse(text);
 }
 
+/** The same of a text. */
+export function exactValue(text) {
+    return readExactly(new TextEncoder().encode(text));
+}
+
 class ExactReader extends Visitor {
     constructor(bytes) {
         super();

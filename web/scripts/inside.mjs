@@ -1,0 +1,60 @@
+// What differs inside the selections of two contests, or on the ballots of two styles, with a name of each thing for a reader. What differs
+// comes from the proved code.
+import { exactValue } from '../../bindings/js/lib/exact.mjs';
+import { say } from './texts.mjs';
+import { nameOf, plainLines, textOfTriple } from './values.mjs';
+
+/** The most of these differences that the page shows of one contest or one ballot. */
+const MOST_INSIDE = 100;
+
+// What is told of whoever gets a ballot, and the kinds of objects that they are.
+const VOTERS = { units: 'unit', parties: 'party' };
+
+/**
+ * What the page shows of what differs inside: how many differences there are, and the first of them. Null if the proved list does not
+ * tell them, since it is too long, and undefined for a difference in anything else.
+ * @param {import('../../bindings/js/index.d.ts').Difference} difference
+ * @param {import('./values.mjs').Names[]} names
+ * @param {(key: string[]) => string | null} belowOf the lines that say what differs on the ballot of a style; null where they are not known
+ */
+export function insideOf({ part, key, how, member, selections }, names, belowOf) {
+    if (how === 'member' && part === 'contest' && member === 'ContestSelection') {
+        return selections === undefined ? null : toldOf('contest', selections, (one) => ({ how: one.how, member: one.member,
+            name: selectionText(one.name, one.how === 'only right' ? [...names].reverse() : names) }));
+    }
+    const below = how === 'member' && part === 'style' && member === 'OrderedContent' ? belowOf(key) : null;
+    return below === null ? undefined : toldOf('style', below.split('\n').slice(0, -1), (line) => entryOfLine(line, names));
+}
+
+function toldOf(part, all, entryOf) {
+    return { part, count: all.length, entries: all.slice(0, MOST_INSIDE).map(entryOf) };
+}
+
+// A line of the proved code on a ballot: how something differs, what it is, and its key or its name.
+function entryOfLine(line, names) {
+    const [, how, what, text] = /^ *(\S+) (\S+) ?(.*)$/.exec(line);
+    if (Object.hasOwn(VOTERS, what)) {
+        return { how, name: say(`parts.${VOTERS[what]}`) };
+    }
+    const key = exactValue(text);
+    return { how, name: what === 'selection' ? say('value.selection', { name: selectionText(key, names) }) : textOfObject(what, key, names) };
+}
+
+// A selection by its candidates or parties, its label, or that it is for a write-in. What else tells it from others is in brackets.
+function selectionText([type, keys, isWriteIn, order, label, identifier], names) {
+    const part = type === 'ElectionResults.PartySelection' ? 'party' : 'candidate';
+    const texts = [
+        ...keys.map((key) => textOfObject(part, key, names)),
+        ...(label === null ? [] : plainLines(JSON.parse(label)).map(({ text }) => text)),
+        ...(isWriteIn ? [say('value.writeIn')] : []),
+    ];
+    const further = [...(order === null ? [] : [say('inside.order', { order: String(order) })]), ...(identifier === null ? [] : [textOfTriple(identifier)])];
+    const named = texts.length > 0 ? texts.join(' + ') : say('value.noName');
+    return further.length === 0 ? named : `${named} ${say('value.inBrackets', { text: further.join(', ') })}`;
+}
+
+// An object as the first of the reports calls it that has it.
+function textOfObject(part, key, names) {
+    const ofReport = names.find((one) => one(part, key) !== undefined);
+    return ofReport === undefined ? textOfTriple(key) : nameOf(part, key, ofReport).text;
+}
