@@ -41,8 +41,8 @@ equal('a folder of one', told(taken(inFolder(A))), ['a.json']);
 equal('a folder of two, one of which is left out', told(taken(inFolder(A), inFolder(C))), ['table: f/a.json f/c.txt left out']);
 equal('a folder of three', told(taken(inFolder(A), inFolder(B), inFolder(A))), ['table: f/a.json f/b.json f/a.json']);
 equal('an empty folder', [told(taken()), byId('files-message').textContent], [[], 'There is no file in it.']);
-equal('a copy in place of the second file', told(chosen(0, A, B), (choice) => choice.exchange(1, C)), ['a.json b.json', 'a.json c.txt']);
-equal('a copy in place of the first file', told(chosen(0, A, B), (choice) => choice.exchange(0, C)), ['a.json b.json', 'c.txt b.json']);
+equal('a copy in place of the second file', told(chosen(0, A, B), (choice) => choice.exchange([A, C])), ['a.json b.json', 'a.json c.txt']);
+equal('a copy in place of the first file', told(chosen(0, A, B), (choice) => choice.exchange([C, B])), ['a.json b.json', 'c.txt b.json']);
 equal('two files of a table', told((choice) => choice.pair([B, A])), ['b.json a.json']);
 
 // The examples: each of them has other files.

@@ -60,12 +60,22 @@ async function tryOne(name, input, prefer) {
     equal(`${name}: the status of a file that is not from before the election`, told.status, isOfResults ? JSON.parse(textOf(input)).Status : undefined);
     if (told.outcome === 'refused') {
         tryFaults(name, judgement, text, told.faults);
+    } else if (told.outcome === 'accepted') {
+        tryBallots(name, judgement);
     }
     if (!/^(reading|prefer|canonical)/.test(name)) {
         return;
     }
     const survey = await surveyed(erd, new File([input], 'a.json'), prefer, null);
     equal(`${name}: among many`, [survey.outcome, survey.faults, survey.sha256, survey.canonical], [told.outcome, told.faults, sumOf(input), formTold]);
+}
+
+// Each line of each ballot has words, and so has each of its selections: what the proved code tells is found in the form.
+function tryBallots(name, judgement) {
+    const { entries } = judgement.styles({ words: '', group: 'all', from: 0, count: 99 }, quiet);
+    const items = entries.flatMap(({ key }) => judgement.ballot({ key, next: null }, quiet).items);
+    const wordless = items.flatMap((item) => [item, ...item.selections ?? []]).filter(({ lines }) => lines.length === 0);
+    equal(`${name}: the words of its ballots`, wordless, []);
 }
 
 // Each fault is of one kind, with its pointer as the program writes it.
@@ -97,6 +107,9 @@ async function tryTwo(name, files, prefer) {
     equal(`${name}: the same`, [comparison.same, comparison.first?.line ?? null], [text === 'same\n', text === 'same\n' ? null : text.slice(0, -1)]);
     const sums = await judgement.sums({}, quiet);
     equal(`${name}: the sums of the forms`, sums[0].canonical.sha256 === sums[1].canonical.sha256, text === 'same\n');
+    tryBallots(name, judgement);
+    const differing = judgement.styles({ words: '', group: 'differing', from: 0, count: 99 }, quiet).entries;
+    equal(`${name}: each ballot that differs has a sentence`, judgement.onBallots({}, quiet).count > 0, differing.length > 0);
     const differences = read(name, 'differences.txt');
     if (differences !== null && !comparison.same) {
         const listed = linesOf(textOf(differences));

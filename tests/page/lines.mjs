@@ -1,9 +1,7 @@
 // Tries what the page tells of the lines of a ballot, on files in which the same words stand in several contests: what was lost is told
 // as lost, in its contest, and nothing is told as moved that stands where it stood.
-import { BallotAnswers } from '../../web/scripts/ballot_answers.mjs';
-import { Meaning } from '../../web/scripts/meaning.mjs';
-import { orderedChanges } from '../../web/scripts/order_changes.mjs';
 import { shownRows } from '../../web/scripts/rows.mjs';
+import { ballotsOf } from './answered.mjs';
 import { counts, equal } from './counted.mjs';
 import { identified, typed } from './made.mjs';
 
@@ -26,21 +24,22 @@ function ballot(...parts) {
         return typed('OrderedContest', { ContestId, OrderedContestSelectionIds: lines.split(' ').filter(Boolean).map((line) => `${ContestId}-${line}`) });
     };
     const content = parts.map((part) => (part.startsWith('#') ? typed('OrderedHeader', { HeaderId: 'hd', OrderedContent: part.slice(1).split('|').map(listed) }) : listed(part)));
-    return new Meaning(typed('ElectionReport', {
+    return typed('ElectionReport', {
         Header: [typed('Header', { '@id': 'hd', ExternalIdentifier: identified('H'), Name: 'Head' })],
         GpUnit: [typed('ReportingUnit', { '@id': 'gp', ExternalIdentifier: identified('U'), Name: 'East' })],
         Election: [typed('Election', {
             Name: 'Test', StartDate: '2026-11-03', ExternalIdentifier: identified('E'), Contest: contests,
             Candidate: ['A', 'B', 'C', 'D'].map((name) => typed('Candidate', { '@id': `ca-${name}`, ExternalIdentifier: identified(name), BallotName: name })),
             BallotStyle: [typed('BallotStyle', { ExternalIdentifier: identified('S1'), GpUnitIds: ['gp'], OrderedContent: content })] })],
-    }), null);
+    });
 }
 
+const KEY = JSON.stringify(['local-level', '', 'S1']);
 const WHOLE = ['S:A B W', 'B:C D W', 'M:Y N', 'J:Y N'];
 
 // What differs, as words, from the view of the ballot: the contest, the line, and what became of it.
 function viewed(left, right) {
-    const { items } = new BallotAnswers([left, right]).ballot({ key: JSON.stringify(['local-level', '', 'S1']) });
+    const { items } = ballotsOf(left, right).ballot({ key: KEY });
     const wordsOf = ({ mark, from, to }) => (mark === 'moved' ? `${from} to ${to}` : mark);
     const nameOf = ({ lines }) => lines[0].texts[0].pieces.map(({ text }) => text).join('').replace('Write-in', 'write-in');
     return items.flatMap((item) => [...(item.mark === '' ? [] : [`${nameOf(item)} ${wordsOf(item)}`]),
@@ -64,11 +63,20 @@ for (const [name, [parts, wanted]] of Object.entries(CASES)) {
 }
 
 // Lists that are longer than any ballot: as many stay as can, at any length.
-const entries = (numbers) => numbers.map((number) => ({ kind: 'contest', id: String(number), depth: 0 }));
-const marks = (left, right) => orderedChanges(entries(left), entries(right)).filter(({ mark }) => mark !== '').map(({ left: one, right: other, mark, from, to }) => [(other ?? one).id, mark, from, to]);
+function headers(numbers) {
+    const made = ballot();
+    made.Header = numbers.map((number) => typed('Header', { '@id': `h${number}`, ExternalIdentifier: identified(`H${number}`), Name: String(number) }));
+    made.Election[0].BallotStyle[0].OrderedContent = numbers.map((number) => typed('OrderedHeader', { HeaderId: `h${number}` }));
+    return made;
+}
+function marks(left, right) {
+    const both = ballotsOf(headers(left), headers(right)).ballotsOf(KEY);
+    const items = Array.from({ length: both.count }, (_, at) => both.item(at)).filter(({ mark }) => mark !== '');
+    return items.map(({ lines: [{ texts: [{ pieces }] }], mark, from, to }) => [pieces.map(({ text }) => text).join(''), mark, ...(mark === 'moved' ? [from, to] : [])]);
+}
 const numbers = Array.from({ length: 5000 }, (_, number) => number);
 equal('lines: one of 5,000 is gone, one is new, and one has moved', marks(numbers, [4000, ...numbers.filter((number) => ![0, 4000].includes(number)), 5000]),
-    [['0', 'removed', 1, null], ['4000', 'moved', 4001, 1], ['5000', 'added', null, 5000]]);
+    [['0', 'removed'], ['4000', 'moved', 4001, 1], ['5000', 'added']]);
 equal('lines: all of 5,000 the other way round', marks(numbers, [...numbers].reverse()).length, 4999);
 
 // What is shown of many rows: what differs, and what is around it.

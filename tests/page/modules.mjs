@@ -3,7 +3,6 @@
 import { existsSync, readdirSync, readFileSync } from 'node:fs';
 import { load } from '../../bindings/js/index.mjs';
 import { aligned } from '../../web/scripts/alignment.mjs';
-import { BallotAnswers } from '../../web/scripts/ballot_answers.mjs';
 import { isUnchangedLine } from '../../web/scripts/ballot_changes.mjs';
 import { csvOf } from '../../web/scripts/csv.mjs';
 import { whyNotJson } from '../../web/scripts/diagnosis.mjs';
@@ -22,6 +21,7 @@ import { NotJson, Scanner } from '../../bindings/js/lib/scanner.mjs';
 import { trailOf } from '../../web/scripts/trail.mjs';
 import { typesIn } from '../../web/scripts/types.mjs';
 import { piecesOf } from '../../web/scripts/visible.mjs';
+import { ballotsIn } from './answered.mjs';
 import { counts, equal, ROOT, TEXTS } from './counted.mjs';
 
 const SUITE = new URL('out/conformance/', ROOT);
@@ -216,8 +216,7 @@ equal('a difference that has none', others.map((other) => insideOf({ ...ofContes
 
 // A ballot of two files, in which a name is changed and two selections have changed places.
 const moved = county.replace('Ingrith', 'Ingrid').replace('"cs1-2","cs1-3","cs1-4"', '"cs1-3","cs1-2","cs1-4"');
-const ballots = new BallotAnswers([meaningOf(county), meaningOf(moved)],
-    erd.toldOfBallots('erd_ballot_differences', [county, moved].map((text) => encoder.encode(text)), {}));
+const ballots = ballotsIn(...[county, moved].map((text) => encoder.encode(text)));
 equal('the languages of the ballots', ballots.languages(), ['en-US', 'es-US']);
 equal('how many ballots differ', ballots.styles({ words: '', group: null, from: 0, count: 0 }).counts, { all: 4, differing: 3, same: 1 });
 equal('the ballots of a precinct', ballots.styles({ words: 'birch', group: 'all', from: 0, count: 9 }).entries.map(({ code }) => code), ['local-level BS-1']);
@@ -226,14 +225,12 @@ const below = ballots.styles({ words: '', group: 'differing', from: 0, count: 9 
     .map((entry) => entry.below.map((text) => text.replace(/(selection) .*/, '$1')));
 const school = '  changed contest ["local-level","","C-SCHOOL"]';
 equal('what differs on these ballots', below, [['  changed contest ["local-level","","C-EXEC"]', '    moved selection', school], [school], [school]]);
-const selections = ballots.ballot({ key: ballots.keys[0] }).items.flatMap((item) => item.selections ?? []);
+const [{ key: first }] = ballots.heads();
+const selections = ballots.ballot({ key: first }).items.flatMap((item) => item.selections ?? []);
 equal('moved selections', selections.filter(({ mark }) => mark === 'moved').map(({ from, to }) => [from, to]), [[1, 2]]);
 equal('reworded selections', selections.flatMap(({ lines: some }) => some.flatMap(({ texts }) => texts.flatMap(({ pieces }) => pieces)))
     .filter(({ mark }) => mark !== '').map(({ text, mark }) => [text, mark]), [['Ingrith', 'removed'], ['Ingrid', 'added']]);
-const sole = JSON.parse(county);
-delete sole.Election[0].BallotStyle[2].ExternalIdentifier;
-equal('the ballot without an identifier comes first', new BallotAnswers([meaningOf(JSON.stringify(sole))]).keys[0], 'null');
-equal('a ballot of one file has no marks', new BallotAnswers([meaningOf(county)]).ballot({ key: ballots.keys[0] }).items
+equal('a ballot of one file has no marks', ballotsIn(encoder.encode(county)).ballot({ key: first }).items
     .flatMap((item) => [item, ...item.selections ?? []]).filter(({ mark, lines: some }) => mark !== '' || !some.every(isUnchangedLine)), []);
 
 counts();

@@ -81,7 +81,8 @@ CASES = {
     'a lost yes': ([['S: Ann Bo W', 'M: No'], ['S: Ann Bo W', 'M: No']], ['Measure 2, on 2 of 2 ballots: the choice Yes is missing in the second file']),
     'a lost contest on one ballot': ([['S: Ann Bo W'], WHOLE], ['Measure 2, on 1 of 2 ballots: it is missing in the second file']),
     'another order': ([['S: Ann W Bo', 'M: Yes No'], ['M: Yes No', 'S: Ann Bo W']], [
-        'Sheriff, on 1 of 2 ballots: the choice Bo moved from place 2 to 3', 'Sheriff, on 1 of 2 ballots: it moved from place 1 to 2']),
+        'Sheriff, on 1 of 2 ballots: the choice Bo stands at another place in the second file',
+        'Sheriff, on 1 of 2 ballots: it stands at another place in the second file']),
     'several moves': ([['S: W Bo Ann', 'M: Yes No'], WHOLE], ['Sheriff, on 1 of 2 ballots: its choices stand in another order']),
     'a ballot style': ([WHOLE], ['The ballot style, on 1 of 2 ballots: it is missing in the second file']),
 }

@@ -4,7 +4,6 @@ import { readFileSync } from 'node:fs';
 import { pointerOf } from '../../bindings/js/lib/words.mjs';
 import { repeatedNames } from '../../bindings/js/lib/repeated.mjs';
 import { aligned } from '../../web/scripts/alignment.mjs';
-import { BallotAnswers } from '../../web/scripts/ballot_answers.mjs';
 import { BallotFindings } from '../../web/scripts/ballot_findings.mjs';
 import { boundedPointer, boundedText } from '../../web/scripts/bounded.mjs';
 import { Client } from '../../web/scripts/client.mjs';
@@ -28,6 +27,7 @@ import { trailOf } from '../../web/scripts/trail.mjs';
 import { typesIn } from '../../web/scripts/types.mjs';
 import { linesOf } from '../../web/scripts/values.mjs';
 import { beginningOf, endOf, piecesOf } from '../../web/scripts/visible.mjs';
+import { ballotsOf } from './answered.mjs';
 import { counts, equal, ROOT, TEXTS } from './counted.mjs';
 import { identified, label, typed } from './made.mjs';
 
@@ -175,9 +175,11 @@ const title = ['title', 'enFor Governor', 'esPara gobernador'];
 const votes = ['votes', 'Vote for up to 3'];
 const ticket = ['', [['name', 'Bo'], ['name', 'Ann'], ['party', 'Green']], []];
 const other = ['', [['name', 'Cy']], []];
-const one = new BallotAnswers([meaning]);
+const answersOf = (...some) => ballotsOf(...some.map(({ report: made }) => made));
+const one = answersOf(meaning);
 equal('a ballot in its order', itemsOf(one, 'S1'), [['', [['title', 'State']], []], ['', [title, votes], [other, ticket]]]);
-equal('a ballot without an order', itemsOf(one, 'S2'), [['', [title, votes], [ticket, other, ['', [['writeIn', 'Write-in']], []]]]]);
+// Without an order they rise by their names: the one for a write-in has no candidate.
+equal('a ballot without an order', itemsOf(one, 'S2'), [['', [title, votes], [['', [['writeIn', 'Write-in']], []], ticket, other]]]);
 equal('its first lines', one.ballot({ key: keyOf('S1') }).lines.map(({ role, texts }) => [role, texts[0].pieces[0].text]),
     [['election', 'Test'], ['date', '2026-11-03'], ['units', 'East, West']]);
 
@@ -187,9 +189,7 @@ const right = report((_made, election) => {
     election.BallotStyle[0].OrderedContent[0].OrderedContent[0].OrderedContestSelectionIds = ['cs1', 'cs3'];
     election.BallotStyle[1].ExternalIdentifier = identified('S3');
 });
-// What the proved code answers of the styles that differ: the positions in the two files, null where a file has none.
-const differing = (code, left = 0, right = 0, below = '') => ({ key: ['local-level', '', code], left, right, below });
-const two = new BallotAnswers([meaning, right], [differing('S1'), differing('S2', 1, null), differing('S3', null, 1)]);
+const two = answersOf(meaning, right);
 const marksOf = (answers, group = 'all') => answers.styles({ words: '', group, from: 0, count: 9 }).entries.map(({ code, mark }) => [code, mark]);
 equal('which ballots differ', marksOf(two), [['local-level S1', 'changed'], ['local-level S2', 'removed'], ['local-level S3', 'added']]);
 const changedTitle = ['title', 'enFor Governor', 'es<removed Para gobernador>'];
@@ -201,33 +201,61 @@ const CHANGES = {
     'another name': (_made, election) => { election.Contest[0].ContestSelection[0].CandidateIds = ['ca1']; },
 };
 for (const [name, change] of Object.entries(CHANGES)) {
-    const answers = new BallotAnswers([report((_made, election) => { election.BallotStyle.shift(); }), report((made, election) => {
+    const answers = answersOf(report((_made, election) => { election.BallotStyle.shift(); }), report((made, election) => {
         election.BallotStyle.shift();
         change(made, election);
-    })], [differing('S2')]);
+    }));
     equal(`${name} is seen`, marksOf(answers), [['local-level S2', 'changed']]);
     equal(`${name}: none is the same`, [marksOf(answers, 'same'), marksOf(answers, 'differing')], [[], [['local-level S2', 'changed']]]);
 }
 const subtitled = report((_made, election) => { election.Contest[0].BallotSubTitle = 'Full term'; });
-equal('a line that is gone', itemsOf(new BallotAnswers([subtitled, meaning]), 'S2')[0][1].at(-1), ['BallotSubTitle', '<removed Full term>']);
-// A ballot that differs in what the page does not show, or in an identifier alone, differs all the same. It is said that it looks the same.
+equal('a line that is gone', itemsOf(answersOf(subtitled, meaning), 'S2')[0][1].at(-1), ['BallotSubTitle', '<removed Full term>']);
+// A ballot that differs in what the page does not show, or in an identifier alone, differs all the same. It is said that it has the same words.
 const abbreviated = report((made) => { made.Party[1].Abbreviation = 'G'; });
-const hidden = new BallotAnswers([meaning, abbreviated], [differing('S1', 0, 0, '  changed contest ["local-level","","C1"]\n')]);
+const hidden = answersOf(meaning, abbreviated);
 const belowOf = (answers) => answers.styles({ words: '', group: 'all', from: 0, count: 9 }).entries.map(({ below, allBelow }) => [below, allBelow]);
-equal('what differs on a ballot', belowOf(hidden), [[['  changed contest ["local-level","","C1"]'], 1], [[], 0]]);
-const lengthy = new BallotAnswers([meaning, meaning], [differing('S1', 0, 0, `  ${'x'.repeat(400)}\n`.repeat(31))]);
-equal('much that differs on a ballot', belowOf(lengthy).map(([below, all]) => [below.length, below.every((line) => line.length <= 301), all]),
-    [[30, true, 31], [0, true, 0]]);
-equal('a ballot that looks the same', [marksOf(hidden), marksOf(hidden, 'differing')],
-    [[['local-level S1', 'alike'], ['local-level S2', '']], [['local-level S1', 'alike']]]);
-equal('how many look the same', hidden.seen(), { all: 2, differing: 1, same: 1, alike: 1 });
-equal('what looks the same has no sentence', new BallotFindings(hidden).told(), { count: 0, all: 2, isPart: false });
-const otherCode = report((_made, election) => { election.BallotStyle[1].ExternalIdentifier = identified('S9'); });
-const recoded = new BallotAnswers([meaning, otherCode], [differing('S2', 1, null), differing('S9', null, 1)]);
-equal('a style under another code', [marksOf(recoded), recoded.seen()],
-    [[['local-level S1', ''], ['local-level S9', 'renamed']], { all: 2, differing: 1, same: 1, alike: 1 }]);
-equal('the same ballots', marksOf(new BallotAnswers([meaning, report()]), 'same'), [['local-level S1', ''], ['local-level S2', '']]);
+equal('what differs on a ballot', belowOf(hidden), [[['  changed contest ["local-level","","C1"]'], 1], [['  changed contest ["local-level","","C1"]'], 1]]);
+equal('a ballot that looks the same', [marksOf(hidden), marksOf(hidden, 'same')], [[['local-level S1', 'alike'], ['local-level S2', 'alike']], []]);
+equal('how many look the same', hidden.seen(), { all: 2, differing: 2, same: 0, alike: 2 });
+const sentencesOf = (answers) => new BallotFindings(answers).some({ words: '', from: 0, count: 99 }).entries
+    .map(({ subject, what, choice = '', count }) => [subject, what, choice, count].join(' '));
+equal('what looks the same is told', sentencesOf(hidden), ['For Governor changed  2']);
+// Another identifier is told as one thing, and marked on both lines: the proved code tells one that is gone, and another one.
+const otherCandidate = report((_made, election) => { election.Candidate[2].ExternalIdentifier = identified('K9'); });
+const recoded = answersOf(meaning, otherCandidate);
+equal('another identifier', [sentencesOf(recoded), marksOf(recoded)],
+    [['For Governor choice.renamed Cy 2'], [['local-level S1', 'alike'], ['local-level S2', 'alike']]]);
+equal('another identifier: its lines', recoded.ballot({ key: keyOf('S1') }).items[1].selections.filter(({ renamed: isOther }) => isOther).map(({ mark }) => mark),
+    ['removed', 'added']);
+const otherContest = answersOf(meaning, report((_made, election) => { election.Contest[0].ExternalIdentifier = identified('C9'); }));
+equal('a contest with another identifier', [sentencesOf(otherContest), otherContest.ballot({ key: keyOf('S2') }).items.map(({ mark, renamed: isOther }) => [mark, isOther])],
+    [['For Governor renamed  2'], [['removed', true], ['added', true]]]);
+const otherUnit = answersOf(meaning, report((made) => { made.GpUnit[1].Number = '7'; }));
+equal('a unit with another number', [sentencesOf(otherUnit), marksOf(otherUnit)], [[' changed  1'], [['local-level S1', 'alike'], ['local-level S2', '']]]);
+const otherCode = answersOf(meaning, report((_made, election) => { election.BallotStyle[1].ExternalIdentifier = identified('S9'); }));
+equal('a style under another code', [marksOf(otherCode), otherCode.seen()],
+    [[['local-level S1', ''], ['local-level S2', 'removed'], ['local-level S9', 'added']], { all: 3, differing: 2, same: 1, alike: 0 }]);
+equal('the same ballots', marksOf(answersOf(meaning, report()), 'same'), [['local-level S1', ''], ['local-level S2', '']]);
 equal('a ballot with all the words', one.styles({ words: 'east WEST', group: 'all', from: 0, count: 9 }).entries.map(({ code }) => code), ['local-level S1']);
+// Units around those of a style are found, and what is not around them is not.
+const around = answersOf(report((made) => { made.GpUnit.push(typed('ReportingUnit', { '@id': 'gp3', ExternalIdentifier: identified('D3'), Name: 'Library', ComposingGpUnitIds: ['gp2'] }),
+    typed('ReportingUnit', { '@id': 'gp4', ExternalIdentifier: identified('R4'), Name: 'Region', ComposingGpUnitIds: ['gp3'] })); }));
+equal('a ballot by a district', ['library', 'r4', 'east'].map((words) => around.styles({ words, group: 'all', from: 0, count: 9 }).entries.map(({ code }) => code.slice(-2))),
+    [['S1'], ['S1'], ['S1', 'S2']]);
+// Ballots are kept for a while, and asked for once.
+const asked = [];
+const { ask } = two;
+two.ask = (call, ...question) => asked.push(call) && ask(call, ...question);
+['S2', 'S2', 'S3', 'S2'].forEach((code) => two.ballot({ key: keyOf(code) }));
+equal('a ballot is asked for once', asked, ['erd_ballot', 'erd_ballot']);
+// Much that differs on a ballot: the first lines are told, each shortened.
+const lengthy = answersOf(...[0, 1].map((side) => report((made, election) => {
+    const many = Array.from({ length: 31 }, (_, at) => `${side}-${at}-${'x'.repeat(400)}`);
+    made.Header.push(...many.map((code) => typed('Header', { '@id': code, ExternalIdentifier: identified(code), Name: code })));
+    election.BallotStyle[0].OrderedContent.push(...many.map((code) => typed('OrderedHeader', { HeaderId: code })));
+})));
+equal('much that differs on a ballot', belowOf(lengthy).map(([below, all]) => [below.length, below.every((line) => line.length <= 301), all]),
+    [[30, true, 62], [0, true, 0]]);
 
 // ---- differences of the proved list
 

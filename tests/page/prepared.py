@@ -30,6 +30,8 @@ def run(session):
         accepted(session, name, data)
     unticked(session)
     two_copies(session)
+    alike(session)
+    beside_an_accepted_file(session)
     numbers(session)
     not_prepared(session)
     cancelled(session)
@@ -170,6 +172,35 @@ def two_copies(session):
         clicks.on(f'#prepare-check-{index}')
         session.becomes(f'after copy {index + 1}', session.verdict, verdict)
     session.equal('both are told', len(session.texts('.prepared-copy')), 2)
+
+
+def alike(session):
+    """Both files, prepared by one choice of steps and compared."""
+    path = EXAMPLES / 'state-primary.raw.json'
+    session.judged(path, session.file('other.json', path.read_bytes().replace(b'Adela Whitlock', b'Adele Whitlock')))
+    both(session, 'both files', 'verdict.different')
+    session.equal('both files: both are told', [text.split(':')[0] for text in session.texts('.prepared-copy p:first-child')],
+                  [WORDS['prepare.copyOf'].split(':')[0].replace('{name}', name) for name in (path.name, 'other.json')])
+
+
+def beside_an_accepted_file(session):
+    """A file that no step changes stays as it is."""
+    path = EXAMPLES / 'county-general.raw.json'
+    prepared, _ = Preparation(path.read_bytes()).prepare(steps_of('removed', 'filled-in'))
+    session.judged(path, session.file('sent.json', prepared))
+    both(session, 'beside an accepted file', 'verdict.same')
+    session.equal('beside an accepted file: one copy', len(session.texts('.prepared-copy')), 1)
+    session.equal('beside an accepted file: the files', [session.text(f'#name-{side} bdi') for side in (0, 1)],
+                  ['county-general.prepared.json', 'sent.json'])
+
+
+def both(session, case, verdict):
+    """Prepares both files by the steps that are ticked."""
+    clicks = Clicks(session)
+    clicks.step('#prepare-begin-0')
+    session.browser.script("document.getElementById('verdict').remove()")
+    clicks.on('#prepare-both-0')
+    session.becomes(f'{case}: the verdict', session.verdict, WORDS[verdict])
 
 
 def numbers(session):

@@ -220,8 +220,8 @@ class Result:
         return found + [say('notice.test', name=it.name) for it in self.answers if it.outcome == 'accepted' and json.loads(it.path.read_bytes()).get('IsTest')]
 
     def on_ballots(self):
-        """The heading of what differs on the ballots, which stands there if what they show differs."""
-        return [self.session.text('#on-ballots') or 'what differs on the ballots'] if self.look_different() else []
+        """The heading of what differs on the ballots, which stands there if they differ."""
+        return [self.session.text('#on-ballots') or 'what differs on the ballots'] if self.differing()[0] > 0 else []
 
     def seen(self):
         """The box on what a voter sees: whether the ballots differ, what they leave out by the table of the profile, and what no ballot shows."""

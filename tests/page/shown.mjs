@@ -13,7 +13,7 @@ import { differencesFiled, faultsFiled } from '../../web/scripts/findings.mjs';
 import { convertedLines, convertedNotices, convertedSentence, savedName } from '../../web/scripts/from_xml/shown.mjs';
 import { ManyFiles } from '../../web/scripts/many.mjs';
 import { envelopeTable, fileNotices, notesNotice, sameBytesNotice } from '../../web/scripts/notices.mjs';
-import { claimNotice, CopyMaker, copyRecorded } from '../../web/scripts/prepare_copy.mjs';
+import { claimNotice, CopyMaker, copyName, copyRecorded } from '../../web/scripts/prepare_copy.mjs';
 import { troublesOf } from '../../web/scripts/refused.mjs';
 import { seenBox } from '../../web/scripts/seen_box.mjs';
 import { banner, sentencesOn, verdictOf } from '../../web/scripts/verdict.mjs';
@@ -142,10 +142,10 @@ const LISTS = {
 
 const FINDING = { kind: 'contest', subject: 'Mayor', count: 2, all: 5 };
 const FINDINGS = [
-    { ...FINDING, what: 'removed' }, { ...FINDING, what: 'added' }, { ...FINDING, what: 'moved', from: 1, to: 3 },
-    { ...FINDING, subject: '', kind: 'header', what: 'order' },
+    { ...FINDING, what: 'removed' }, { ...FINDING, what: 'added' }, { ...FINDING, what: 'moved' },
+    { ...FINDING, subject: '', kind: 'header', what: 'changed' }, { ...FINDING, what: 'renamed' },
     { ...FINDING, what: 'choice.removed', choice: 'Ann' }, { ...FINDING, what: 'choice.added', choice: 'Ann' },
-    { ...FINDING, what: 'choice.moved', choice: 'Ann', from: 2, to: 1 },
+    { ...FINDING, what: 'choice.moved', choice: 'Ann' }, { ...FINDING, what: 'choice.renamed', choice: 'Ann' },
     { ...FINDING, what: 'choice.words', choice: 'Ann', role: 'party', left: 'Blue', right: '' },
     { ...FINDING, what: 'words', role: 'votes', left: '1', right: '2' },
     { ...FINDING, what: 'words', role: 'FullText', left: '', right: 'x' },
@@ -175,7 +175,7 @@ const CONVERTED = { isBorn: false, sha256: 'a'.repeat(64), form: { sha256: 'b'.r
     told: [{ place: '/X', line: 4, key: 'element', name: '' }, { place: '/Y', line: null, key: 'attribute', name: 'q' }] };
 const XML = { name: 'a.xml', index: 0, client: null, isRefused: false };
 const COPY = { name: 'x.json', original: 'c'.repeat(64), converted: true, steps: [{ name: 'nulls', count: 1200 }, { name: 'odd', count: 1 }] };
-const maker = new CopyMaker(client, { index: 0, name: 'x.raw.json', takesCopy() {} });
+const maker = new CopyMaker(client, { index: 0, names: ['x.raw.json'], files: [], isPair: false, takesCopies() {} });
 const STEP = { name: 'nulls', done: true, count: 0, made: [], leftCount: 0, left: [] };
 const PLACE = { trail: [], pointer: '/a' };
 const OVERVIEW = { counts: { style: 2, contest: 1, candidate: 0, party: 3, office: 0, person: 0, header: 0, unit: 7 },
@@ -192,7 +192,7 @@ const OTHERS = {
     'the place of the report': where({ trail: [], pointer: '', name: undefined }),
     'cards of faults': await new FaultCards(client, FIXES, { index: 0, name: 'a.json', count: 14 }).section(),
     'files that are not JSON': await troublesOf([{ outcome: 'notJson', trouble: { why: 'endsEarly', line: 3, column: 9 } }, ACCEPTED,
-        { outcome: 'notJson', trouble: { why: 'byteOrderMark' } }], ['a.json', 'b.json', 'c.json'], client, { fixes: FIXES, takesCopy() {} }),
+        { outcome: 'notJson', trouble: { why: 'byteOrderMark' } }], ['a.json', 'b.json', 'c.json'], client, { fixes: FIXES, chosen: [], takesCopies() {} }),
     'what was converted': [convertedSentence(CONVERTED, 'a.xml'), convertedSentence({ ...CONVERTED, isBorn: true }, 'a.json'),
         convertedSentence(undefined, 'a.json'), convertedLines(CONVERTED), convertedLines({ ...CONVERTED, allTold: 0 }),
         convertedLines({ why: 'doctype' }), savedName('a.xml', CONVERTED), savedName('a.JSON')],
@@ -201,7 +201,7 @@ const OTHERS = {
     'what was not converted': [convertedNotices({ why: 'noSuchJson' }, { ...XML, isRefused: true }), convertedNotices({ why: 'noSuchJson' }, XML)],
     'a copy that says so': claimNotice(COPY),
     'the record of a copy': copyRecorded(COPY),
-    'steps of a copy': [maker.copyName,
+    'steps of a copy': [copyName('x.raw.json'),
         maker.step({ ...STEP, count: 2, made: [{ ...PLACE, before: 'null', after: null }], leftCount: 1, left: [{ why: 'noName', ...PLACE }] }),
         maker.step({ ...STEP, name: 'names', done: false }), maker.group('visible', []), maker.group('removed', [STEP])],
     'the card of a file': await card(OVERVIEW, ['es', 'en'], { elections: [GENERAL], isTest: true, envelope: { SequenceStart: '1', SequenceEnd: '2' } }),

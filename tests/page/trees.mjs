@@ -6,7 +6,7 @@ import { counts, equal, ROOT } from './counted.mjs';
 
 // The modules that take an object out of a tree, or are handed a tree or its objects.
 const READ_TREES = {
-    'ballots.mjs': 'the words of what a ballot lists', 'ballot_answers.mjs': 'the same, of all ballots', 'judging.mjs': 'makes the trees',
+    'ballots.mjs': 'the words beside keys', 'ballot_answers.mjs': 'languages, and the units around others', 'judging.mjs': 'makes the trees',
     'meaning.mjs': 'names of objects by key', 'overview.mjs': 'what one file has',
     'seen.mjs': 'the members that the ballots of one file show', 'side.mjs': 'reads the form',
 };
@@ -30,9 +30,15 @@ const imports = new Map([...modules].map(([name, text]) => [name, importsOf(text
 const importing = (name) => [...imports].filter(([, some]) => some.includes(name)).map(([one]) => one).sort();
 equal('who answers on ballots', importing('ballot_answers.mjs'), ['judging.mjs']);
 equal('with what the answers are made', [...modules.get('judging.mjs').matchAll(/new BallotAnswers\((.*)\);/g)].map(([, words]) => words),
-    ['this.meanings(tell), this.differingBallots()']);
+    ['this.meanings(tell), this.differingBallots(), (...question) => this.toldOfBallots(...question)']);
 const [, listing] = /differingBallots\(\) \{([^}]*\}[^}]*)\}/.exec(modules.get('judging.mjs'));
 equal('what the list of ballots that differ is', listing.includes("'erd_ballot_differences'"), true);
+// Nothing but the proved code says what ballots have on them, in which order, and what differs: no module that makes the answers reads the
+// content of a ballot out of a tree.
+const ANSWER = ['ballots.mjs', 'ballot_answers.mjs', 'ballot_changes.mjs', 'ballot_things.mjs', 'ballot_findings.mjs'];
+ANSWER.forEach((name) => equal(`${name} reads no content of a ballot`, /OrderedCont|HeaderId|GpUnitIds|orderedChanges/.test(modules.get(name)), false));
+const CALLS = ['erd_ballot', 'erd_ballots', 'erd_ballots_beside'];
+equal('what the answers ask', [...new Set(modules.get('ballot_answers.mjs').match(/(?<=')erd_\w+(?=')/g))].sort(), CALLS);
 // What shows answers makes none: it imports no module that reads a tree, but for words.
 const SHOW = ['seen_box.mjs', 'ballot_list.mjs', 'ballot_sentences.mjs', 'ballot_print.mjs', 'difference_list.mjs', 'result.mjs', 'record.mjs'];
 const WORDS_ALONE = ['ballots.mjs'];

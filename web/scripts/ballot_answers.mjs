@@ -1,9 +1,10 @@
-// What the worker answers on the ballots of one file or two: which styles there are, which of them differ, and one ballot. Which of them
-// differ comes from the proved code.
+// What the worker answers on the ballots of one file or two: which styles there are, which of them differ, and one ballot. All of this comes
+// from the proved code, and the words from the canonical form.
 import { orderOfKeys, textOfKey } from '../../bindings/js/lib/order.mjs';
-import { mergedItem, mergedLines } from './ballot_changes.mjs';
-import { Ballots } from './ballots.mjs';
-import { orderedChanges } from './order_changes.mjs';
+import { besideItself, BothBallots, mergedLines } from './ballot_changes.mjs';
+import { BallotThings, haveSameWords } from './ballot_things.mjs';
+import { BallotWords } from './ballots.mjs';
+import { aroundOf, unitsAround } from './overview.mjs';
 import { hasWords } from './search.mjs';
 import { shortened } from './visible.mjs';
 
@@ -17,20 +18,29 @@ const CHARACTERS_OF_LINE = 500;
 const MOST_BELOW = 30;
 const LONGEST_BELOW = 300;
 
+/** How many ballots are kept of those that were asked for. */
+const MOST_KEPT = 20;
+
 export class BallotAnswers {
     /**
      * @param {import('./meaning.mjs').Meaning[]} meanings of one file, or of the left and the right one
-     * @param {{key: string[] | null, left: number | null, right: number | null, below: string}[]} [differing] what the proved code answers: the
-     *     ballot styles that are not the same in both files, with their positions, and the lines that say what differs
+     * @param {{key: string[], left: number | null, right: number | null, below: string}[]} differing what `erd_ballot_differences` answers
+     * @param {(call: string, sides: number[], ...positions: number[]) => any} ask what another call of the proved code answers on the ballots of
+     *     these files: docs/API.md, "Ballots"
      */
-    constructor(meanings, differing = []) {
+    constructor(meanings, differing, ask) {
         this.meanings = meanings;
-        this.below = new Map(differing.map(({ key, below }) => [textOfKey(key), below]));
-        this.marks = new Map(differing.map(({ key, left, right }) => [textOfKey(key), right === null ? 'removed' : left === null ? 'added' : 'changed']));
-        this.sides = meanings.map((meaning) => new Ballots(meaning));
-        this.numbers = new Map();
-        const styles = new Map(this.sides.flatMap(({ styles: some }) => [...some]));
-        this.keys = [...styles].sort(([, one], [, other]) => orderOfKeys(one.key, other.key)).map(([text]) => text);
+        this.ask = ask;
+        this.words = meanings.map((meaning) => new BallotWords(meaning));
+        this.told = meanings.map((_, side) => new Map(ask('erd_ballots', [side]).map((head) => [textOfKey(head.key), head])));
+        this.differing = new Map(differing.map((one) => [textOfKey(one.key), one]));
+        this.things = new BallotThings(this.words);
+        this.kept = new Map();
+    }
+
+    /** What the proved code tells of each ballot style of a file. */
+    toldHeads(side) {
+        return [...this.told[side].values()];
     }
 
     /** The languages of all texts. */
@@ -40,7 +50,8 @@ export class BallotAnswers {
     }
 
     /**
-     * Some of the ballot styles of a group whose name, units, parties or districts have the words, and how many there are in each group.
+     * Some of the ballot styles of a group whose name, units or parties have the words, or what is around its units, and how many there are in
+     * each group.
      * @param {{words: string, group: 'all' | 'differing' | 'same' | null, from: number, count: number}} question
      */
     styles({ words, group, from, count }) {
@@ -49,71 +60,57 @@ export class BallotAnswers {
         fitting.forEach(({ mark }) => counts[mark === '' ? 'same' : 'differing']++);
         const chosen = group === 'all' ? fitting : fitting.filter(({ mark }) => (mark === '') === (group === 'same'));
         const entries = group === null ? [] : chosen.slice(from, from + count);
-        return { counts, entries: entries.map((head) => ({ ...head, ...linesBelow(this.below.get(head.key) ?? '') })) };
+        return { counts, entries: entries.map((head) => ({ ...head, ...linesBelow(this.differing.get(head.key)?.below ?? '') })) };
     }
 
-    /** How many ballot styles there are, how many of them differ, and how many of these look the same here. */
+    /** How many ballot styles there are, how many of them differ, and how many of these have the same words here. */
     seen() {
         const { counts } = this.styles({ words: '', group: null, from: 0, count: 0 });
-        return { ...counts, alike: this.heads().filter(({ mark }) => mark === 'alike' || mark === 'renamed').length };
+        return { ...counts, alike: this.heads().filter(({ mark }) => mark === 'alike').length };
     }
 
-    // What a ballot style is found by: what it is called, the names, numbers and codes of its units, and those of the districts of its contests.
+    // What a ballot style is found by: what it is called, and the names, numbers and codes of its units and of those around them.
     wordsOf({ key, code, units, parties }) {
-        this.keptWords ??= new Map();
-        if (!this.keptWords.has(key)) {
-            const further = this.sides.flatMap((side) => side.wordsOf(key));
-            this.keptWords.set(key, [...new Set([code, ...units, ...parties, ...further])]);
-        }
-        return this.keptWords.get(key);
+        this.around ??= this.meanings.map(aroundOf);
+        const found = this.told.flatMap((heads, side) => unitsAround((heads.get(key)?.units ?? []).map((unit) => this.meanings[side].thing('unit', unit)),
+            this.around[side]));
+        return [code, ...units, ...parties, ...found.flatMap(wordsOfUnit)];
     }
 
-    // The head of each style, with whether it differs. One that differs may look the same here: other identifiers have the same words, or
-    // something differs that is not shown. A style under another code that looks the same stands once.
+    // The head of each style, with whether it differs. One that differs may have the same words here: other identifiers have them, or something
+    // differs that is not shown.
     heads() {
-        this.keptHeads ??= this.madeHeads();
+        this.keptHeads ??= this.keys().map((key) => ({ key, ...this.headsOf(key, (words, told) => words.head(told))[1], mark: this.markOf(key) }));
         return this.keptHeads;
     }
 
-    madeHeads() {
-        const heads = this.keys.map((key) => {
-            const some = this.sides.map((side) => side.head(key));
-            return { key, ...(some.at(-1) ?? some[0]), mark: this.markOf(key) };
-        });
-        const removed = onlyOnes(heads.filter(({ mark }) => mark === 'removed'), ({ key }) => this.fingerprint(this.sides[0], key));
-        const added = onlyOnes(heads.filter(({ mark }) => mark === 'added'), ({ key }) => this.fingerprint(this.sides[1], key));
-        this.renamed = new Map([...added].filter(([shown]) => removed.has(shown)).map(([shown, { key }]) => [key, removed.get(shown).key]));
-        const gone = new Set(this.renamed.values());
-        return heads.filter(({ key }) => !gone.has(key)).map((head) => (this.renamed.has(head.key) ? { ...head, mark: 'renamed' } : head));
+    // The keys of all styles, as texts, in their rising order.
+    keys() {
+        const told = new Map(this.told.flatMap((heads) => [...heads]));
+        return [...told].sort(([, one], [, other]) => orderOfKeys(one.key, other.key)).map(([key]) => key);
+    }
+
+    // Something of the head of a style in each file. That of a file which lacks the style is that of the other.
+    headsOf(key, made) {
+        const some = this.told.map((heads, side) => (heads.has(key) ? made(this.words[side], heads.get(key)) : null)).filter((one) => one !== null);
+        return [some[0], some.at(-1)];
     }
 
     markOf(key) {
-        const mark = this.marks.get(key) ?? '';
-        return mark === 'changed' && this.fingerprint(this.sides[0], key) === this.fingerprint(this.sides[1], key) ? 'alike' : mark;
-    }
-
-    // One text for all that a ballot shows, and not for identifiers. A contest stands on many ballots, so it counts by a number.
-    fingerprint(side, key) {
-        const items = side.items(key).map(({ print, depth, unlisted, selections }) => [depth, unlisted, this.numberOf(print),
-            this.numberOfList(selections ?? [], unlisted)]);
-        return JSON.stringify([side.lines(key), items]);
-    }
-
-    // The number of a list of selections, which has no order if it is that of a contest as a whole. Many ballots have that, so it is kept.
-    numberOfList(selections, unlisted) {
-        this.lists ??= new WeakMap();
-        if (!this.lists.has(selections)) {
-            const numbers = selections.map(({ print }) => this.numberOf(print));
-            this.lists.set(selections, this.numberOf(JSON.stringify(unlisted ? numbers.sort((one, other) => one - other) : numbers)));
+        if (!this.differing.has(key)) {
+            return '';
         }
-        return this.lists.get(selections);
+        const { left, right } = this.differing.get(key);
+        return right === null ? 'removed' : left === null ? 'added' : haveSameWords(this.thingsOn(key)) ? 'alike' : 'changed';
     }
 
-    numberOf(text) {
-        if (!this.numbers.has(text)) {
-            this.numbers.set(text, this.numbers.size);
-        }
-        return this.numbers.get(text);
+    /** What differs on the ballots of a style of both files. */
+    thingsOn(key) {
+        return this.things.of(this.linesOf(key), this.differing.get(key).below);
+    }
+
+    linesOf(key) {
+        return this.headsOf(key, (words, told) => words.lines(told));
     }
 
     /**
@@ -123,32 +120,39 @@ export class BallotAnswers {
      *     and how many items are left
      */
     ballot({ key, next }) {
-        const { lines, changes } = this.changesOf(key);
-        return { lines, ...partOf(changes, next ?? { item: 0, line: 0 }) };
+        return { lines: mergedLines(...this.linesOf(key)), ...partOf(this.ballotsOf(key), next ?? { item: 0, line: 0 }) };
     }
 
-    // What changed in a ballot. The last one is kept, since it may be asked for in parts.
-    changesOf(key) {
-        if (this.last?.key !== key) {
-            this.heads();
-            const there = this.sides.map((side, at) => ({ side, key: at === 0 ? this.renamed.get(key) ?? key : key }))
-                .filter((one) => one.side.head(one.key) !== null);
-            const [left, right] = [there[0], there.at(-1)];
-            this.last = { key, lines: mergedLines(left.side.lines(left.key), right.side.lines(right.key)),
-                changes: orderedChanges(left.side.items(left.key), right.side.items(right.key)) };
+    // The ballots of a style beside each other. They are kept for a while, since each answer judges the files anew.
+    ballotsOf(key) {
+        if (!this.kept.has(key)) {
+            this.kept.set(key, this.madeBallots(key));
+            [...this.kept.keys()].slice(0, -MOST_KEPT).forEach((old) => this.kept.delete(old));
         }
-        return this.last;
+        return this.kept.get(key);
+    }
+
+    madeBallots(key) {
+        const places = this.told.map((heads) => heads.get(key)?.at);
+        const there = [...places.keys()].filter((side) => places[side] !== undefined);
+        const told = there.length === 2 ? this.ask('erd_ballots_beside', there, ...places) : besideItself(this.ask('erd_ballot', there, places[there[0]]).lines);
+        return new BothBallots(told, [this.words[there[0]], this.words[there.at(-1)]]);
     }
 }
 
+function wordsOfUnit({ title, object: { Number: number = '', ExternalIdentifier } }) {
+    return [title ?? '', String(number), ...ExternalIdentifier.map(({ Value }) => Value)];
+}
+
 // Items from a place on, as many as a reader is shown at once. A contest with more lines than that is shown in parts too.
-function partOf(changes, { item, line }) {
+function partOf(ballots, { item, line }) {
     const items = [];
+    const { count } = ballots;
     let room = MOST_LINES;
     let at = item;
     let from = line;
-    for (; at < changes.length && room > 0; at++, from = 0) {
-        const { selections, ...merged } = mergedItem(changes[at]);
+    for (; at < count && room > 0; at++, from = 0) {
+        const { selections, ...merged } = ballots.item(at);
         room -= 1 + Math.ceil(lengthOf(merged.lines) / CHARACTERS_OF_LINE);
         if (selections === undefined) {
             items.push(merged);
@@ -158,10 +162,10 @@ function partOf(changes, { item, line }) {
         room -= some.length;
         items.push({ ...merged, selections: some, first: from });
         if (from + some.length < selections.length) {
-            return { items, next: { item: at, line: from + some.length }, left: changes.length - at };
+            return { items, next: { item: at, line: from + some.length }, left: count - at };
         }
     }
-    return { items, next: at < changes.length ? { item: at, line: 0 } : null, left: changes.length - at };
+    return { items, next: at < count ? { item: at, line: 0 } : null, left: count - at };
 }
 
 function lengthOf(lines) {
@@ -174,25 +178,10 @@ function linesBelow(text) {
     return { below: lines.slice(0, MOST_BELOW).map((line) => shortened(line, LONGEST_BELOW)), allBelow: lines.length };
 }
 
-// The entries by their texts, where no other entry has the same one.
-function onlyOnes(entries, textOf) {
-    const found = new Map();
-    entries.forEach((entry) => found.set(textOf(entry), found.has(textOf(entry)) ? null : entry));
-    return new Map([...found].filter(([, entry]) => entry !== null));
-}
-
 function languagesIn(value) {
     if (value === null || typeof value !== 'object') {
         return [];
     }
-    const languages = new Set();
-    const waiting = [value];
-    while (waiting.length > 0) {
-        const one = waiting.pop();
-        if (one['@type'] === LANGUAGE_STRING && typeof one.Language === 'string') {
-            languages.add(one.Language);
-        }
-        waiting.push(...Object.values(one).filter((inner) => inner !== null && typeof inner === 'object'));
-    }
-    return [...languages];
+    const own = value['@type'] === LANGUAGE_STRING && typeof value.Language === 'string' ? [value.Language] : [];
+    return [...own, ...Object.values(value).flatMap(languagesIn)];
 }

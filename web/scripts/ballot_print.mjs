@@ -98,8 +98,8 @@ export class BallotPrint {
 
 // The ballot styles that are the same, a line for each.
 function sameInPieces({ entries, count }) {
-    const line = ({ code, units, parties, mark }) => element('p', { class: 'sheet-same' }, element('strong', {}, theirs(cut(code))), ' ',
-        theirs(cut([...units, ...parties].join(', '))), mark === 'renamed' ? ` (${say('ballots.mark.renamed')})` : null);
+    const line = ({ code, units, parties }) => element('p', { class: 'sheet-same' }, element('strong', {}, theirs(cut(code))), ' ',
+        theirs(cut([...units, ...parties].join(', '))));
     const nodes = [element('p', {}, element('strong', {}, say('sheet.notPrinted', { count }))), ...entries.map(line),
         ...(count > entries.length ? [element('p', {}, say('record.more', { count: count - entries.length }))] : [])];
     return nodes.map(pieceAlone);

@@ -23,14 +23,14 @@ export class BallotSentences {
 
     /** The section; null if no ballot differs. */
     async section() {
-        const { count, isPart } = await this.client.ask('onBallots', {}, this.tell);
+        const { count } = await this.client.ask('onBallots', {}, this.tell);
         if (count === 0) {
             return null;
         }
         await this.fill('');
         return element('section', { class: 'on-ballots', 'aria-labelledby': 'on-ballots' },
             element('h3', { id: 'on-ballots' }, say('finding.heading', { count })), element('p', { class: 'note' }, say('finding.note')),
-            isPart ? element('p', { class: 'message' }, say('finding.part')) : null, count > 1 ? this.controls() : null, this.lists);
+            count > 1 ? this.controls() : null, this.lists);
     }
 
     controls() {
@@ -99,10 +99,10 @@ export class BallotSentences {
 }
 
 /** A thing that differs on ballots, as a sentence. */
-export function findingSentence({ kind, subject, what, choice = '', role = '', left = '', right = '', from, to, count, all }) {
+export function findingSentence({ kind, subject, what, choice = '', role = '', left = '', right = '', count, all }) {
     const named = subject === '' ? say(`finding.kind.${kind}`) : element('strong', {}, long(subject, LONGEST));
     const nodes = { choice: element('strong', {}, long(choice, LONGEST)), left: value(left), right: value(right), role: roleText(role) };
-    return saidWith('finding.sentence', { subject: named, what: saidWith(`finding.${what}`, nodes, { from: from ?? '', to: to ?? '' }) }, { count, all });
+    return saidWith('finding.sentence', { subject: named, what: saidWith(`finding.${what}`, nodes) }, { count, all });
 }
 
 function roleText(role) {

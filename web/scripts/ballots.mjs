@@ -1,7 +1,8 @@
-// The ballots of a report, each as a voter would meet it: headers, contests and selections in the order of the ballot, in each
-// language of the file. They are made from the canonical form. This is the page's own reading, and no proof covers it.
+// The words of what ballots have on them: of headers, contests and selections, in each language of the file. The proved code says which of
+// them a ballot has; here they are looked up in the canonical form by their keys. No proof covers the words.
+import { compactText } from '../../bindings/js/lib/exact.mjs';
+import { orderOfKeys } from '../../bindings/js/lib/order.mjs';
 import { say, sayIfKnown } from './texts.mjs';
-import { textOfKey } from '../../bindings/js/lib/order.mjs';
 import { textOfTriple } from './values.mjs';
 
 /**
@@ -9,10 +10,9 @@ import { textOfTriple } from './values.mjs';
  * @typedef {{lang: string, text: string}[]} Label
  * A line of what is printed. `own` marks words of the page.
  * @typedef {{role: string, label: Label, own?: boolean}} Line
- * A header, a contest or a selection. `id` is equal for the same one in two files, and `print` for the same words. `lacking` are the
- * languages of other titles that the title of a contest has not; the empty one if its title is in no language.
- * @typedef {{kind: string, id: string, print: string, depth: number, lines: Line[], selections?: Item[], unlisted?: boolean,
- *     lacking?: string[]}} Item
+ * The words of a header, a contest or a selection. `print` is equal for the same words. `lacking` are the languages of other titles that the
+ * title of a contest has not; the empty one if its title is in no language. `selections` are those of a contest, by their names.
+ * @typedef {{print: string, lines: Line[], selections?: Map<string, Words>, lacking?: string[]}} Words
  */
 
 const TITLES = ['BallotTitle', 'Name'];
@@ -23,89 +23,60 @@ export const STATEMENTS = ['SummaryText', 'FullText', 'ProStatement', 'ConStatem
 // The ways of voting in which a voter marks no number of lines.
 const NO_COUNT = new Set(['rcv', 'borda', 'range']);
 
-/** The ballots of one report. */
-export class Ballots {
+/** The words of the ballots of one report. */
+export class BallotWords {
     /** @param {import('./meaning.mjs').Meaning} meaning */
     constructor(meaning) {
         this.meaning = meaning;
-        this.styles = meaning.things.get('style');
-        this.contests = new Map();
+        this.kept = new Map();
     }
 
-    /** What tells one ballot style from another: its code, its units and its parties. Null if there is none under this text. */
-    head(keyText) {
-        const style = this.styles.get(keyText);
-        return style === undefined ? null : {
-            code: textOfTriple(style.key),
-            units: this.namesOf(style.object.GpUnitIds),
-            parties: this.namesOf(style.object.PartyIds ?? []),
-        };
+    /** What tells one ballot style from another: its code, its units and its parties, of which the proved code has told the keys. */
+    head({ key, units, parties }) {
+        return { code: textOfTriple(key), units: this.namesOf('unit', units), parties: this.namesOf('party', parties) };
     }
 
-    namesOf(references) {
-        return references.map((reference) => this.nameOf(this.meaning.named.get(reference))).sort();
-    }
-
-    nameOf(thing) {
-        return thing.title ?? textOfTriple(thing.key);
-    }
-
-    /** The names, numbers and codes of the units of a style and of the districts of its contests. None if there is no such style. */
-    wordsOf(keyText) {
-        const style = this.styles.get(keyText);
-        const contests = style === undefined ? [] : this.items(keyText).filter(({ kind }) => kind === 'contest');
-        const districts = contests.map(({ id }) => this.meaning.things.get('contest').get(keyOfItem(id)).object.ElectionDistrictId);
-        return [...new Set([...style?.object.GpUnitIds ?? [], ...districts])].filter((reference) => reference !== undefined)
-            .flatMap((reference) => this.wordsOfUnit(this.meaning.named.get(reference)));
-    }
-
-    wordsOfUnit({ title, object: { Number: number, ExternalIdentifier } }) {
-        return [title ?? '', ...(number === undefined ? [] : [String(number)]), ...(ExternalIdentifier ?? []).map(({ Value }) => Value)];
+    namesOf(part, keys) {
+        return keys.map((key) => this.meaning.thing(part, key)).map(({ title, key }) => title ?? textOfTriple(key)).sort();
     }
 
     /** The first lines of a ballot: its election, its units and its parties. */
-    lines(keyText) {
-        const style = this.styles.get(keyText);
-        const { units, parties } = this.head(keyText);
-        const { Name, StartDate } = this.meaning.thing('election', style.election).object;
+    lines(told) {
+        const { units, parties } = this.head(told);
+        const { Name, StartDate } = this.meaning.thing('election', this.meaning.thing('style', told.key).election).object;
         return [
             { role: 'election', label: labelOf(Name) }, plainLine('date', StartDate), plainLine('units', units.join(', ')),
             ...(parties.length > 0 ? [plainLine('parties', parties.join(', '))] : []),
         ];
     }
 
-    /** What stands on a ballot, in its order. */
-    items(keyText) {
-        return this.content(this.styles.get(keyText).object.OrderedContent ?? [], 0);
-    }
-
-    content(entries, depth) {
-        return entries.flatMap((entry) => (Object.hasOwn(entry, 'HeaderId')
-            ? [this.header(entry, depth), ...this.content(entry.OrderedContent ?? [], depth + 1)] : [this.contestOn(entry, depth)]));
-    }
-
-    header({ HeaderId }, depth) {
-        const { key, object } = this.meaning.named.get(HeaderId);
-        return itemOf('header', textOfKey(['header', key]), depth, [{ role: 'title', label: labelOf(object.Name) }]);
-    }
-
-    // A contest with those selections that the ballot lists. A ballot that lists none has all of them, in no order.
-    contestOn({ ContestId, OrderedContestSelectionIds }, depth) {
-        const { id, print, lines, selections, all, lacking } = this.contest(ContestId);
-        const unlisted = OrderedContestSelectionIds === undefined;
-        const listed = unlisted ? all : OrderedContestSelectionIds.map((reference) => selections.get(reference));
-        return { kind: 'contest', id, print, depth, lines, selections: listed, unlisted, lacking };
-    }
-
-    // A contest and its selections by their names in the file. Many ballots have the same one.
-    contest(reference) {
-        if (!this.contests.has(reference)) {
-            const { key, object } = this.meaning.named.get(reference);
-            const selections = new Map((object.ContestSelection ?? []).map((selection) => [selection['@id'], this.selection(selection)]));
-            const item = itemOf('contest', textOfKey(['contest', key]), 0, this.linesOfContest(object));
-            this.contests.set(reference, { ...item, selections, all: [...selections.values()], lacking: this.lackingIn(titleOf(object)) });
+    /**
+     * The words of a header or a contest. Many ballots have the same one.
+     * @param {'header' | 'contest'} kind
+     * @param {string} key the text of its key
+     * @returns {Words}
+     */
+    words(kind, key) {
+        const name = `${kind} ${key}`;
+        if (!this.kept.has(name)) {
+            const { object } = this.meaning.things.get(kind).get(key);
+            this.kept.set(name, kind === 'header' ? wordsOf([{ role: 'title', label: labelOf(object.Name) }]) : this.contest(object));
         }
-        return this.contests.get(reference);
+        return this.kept.get(name);
+    }
+
+    contest(object) {
+        const selections = new Map((object.ContestSelection ?? []).map((selection) => [this.nameOf(selection), this.selection(selection)]));
+        return { ...wordsOf(this.linesOfContest(object)), selections, lacking: this.lackingIn(titleOf(object)) };
+    }
+
+    // The text of the name of a selection, as the proved code tells it: docs/API.md, "Inside selections".
+    nameOf({ '@type': kind, CandidateIds, PartyIds, IsWriteIn, SequenceOrder, Selection, ...others }) {
+        const [isOfCandidates, isOfMeasure] = ['CandidateSelection', 'BallotMeasureSelection'].map((name) => kind === `ElectionResults.${name}`);
+        const references = (isOfCandidates ? CandidateIds : isOfMeasure ? [] : PartyIds) ?? [];
+        const keys = references.map((reference) => this.meaning.named.get(reference).key).sort(orderOfKeys);
+        return compactText([kind, keys, isOfCandidates && IsWriteIn === true, SequenceOrder ?? null,
+            isOfMeasure ? compactText(Selection) : null, this.meaning.keyOf(others)]);
     }
 
     // Which languages of the titles of contests a title is not in.
@@ -142,10 +113,9 @@ export class Ballots {
     }
 
     selection(selection) {
-        const names = this.namesOfSelection(selection);
         const writeIn = selection.IsWriteIn === true ? [ownLine('writeIn', say('ballot.writeIn'))] : [];
-        const lines = [...names, ...writeIn];
-        return itemOf('selection', this.meaning.selectionName(selection), 0, lines.length > 0 ? lines : [ownLine('writeIn', say('value.noName'))]);
+        const lines = [...this.namesOfSelection(selection), ...writeIn];
+        return wordsOf(lines.length > 0 ? lines : [ownLine('writeIn', say('value.noName'))]);
     }
 
     namesOfSelection({ CandidateIds, PartyIds, EndorsementPartyIds, Selection }) {
@@ -164,13 +134,8 @@ export class Ballots {
     }
 }
 
-// The text of the key of a contest, from the `id` of its item.
-function keyOfItem(id) {
-    return textOfKey(JSON.parse(id)[1]);
-}
-
-function itemOf(kind, id, depth, lines) {
-    return { kind, id, print: JSON.stringify(lines), depth, lines };
+function wordsOf(lines) {
+    return { print: JSON.stringify(lines), lines };
 }
 
 // The candidates of a selection are a set. Of a ticket, the top comes first.
@@ -200,8 +165,7 @@ function howToVote({ VotesAllowed, VoteVariation, OtherVoteVariation }) {
     return [...votes('ballot.votes'), ...(way === undefined ? [] : [ownLine('variation', say('ballot.way', { way: sayIfKnown(`variation.${way}`) ?? way }))])];
 }
 
-/** @returns {Label} */
-export function labelOf(value) {
+function labelOf(value) {
     return typeof value === 'string' ? [{ lang: '', text: value }]
         : value.Text.map(({ Language, Content }) => ({ lang: Language, text: Content })).sort((one, other) => (one.lang < other.lang ? -1 : 1));
 }

@@ -177,9 +177,11 @@ export class Choice {
         }
     }
 
-    /** A prepared copy in place of one of the files. The choice of an identifier stays. */
-    exchange(index, copy) {
-        this.slots[this.slots.indexOf(this.files[index])] = copy;
+    /** Prepared copies in place of the files, each in its place. The choice of an identifier stays. */
+    exchange(copies) {
+        copies.forEach((copy, index) => {
+            this.slots[index] = copy;
+        });
         this.changed();
     }
 

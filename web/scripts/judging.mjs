@@ -241,10 +241,14 @@ export class Judgement {
         return this.keptMeanings;
     }
 
-    // What the ballots look like.
+    // What the ballots look like: what the proved code answers on them, with the words of the canonical forms.
     ballots(tell) {
-        this.keptBallots ??= new BallotAnswers(this.meanings(tell), this.differingBallots());
+        this.keptBallots ??= new BallotAnswers(this.meanings(tell), this.differingBallots(), (...question) => this.toldOfBallots(...question));
         return this.keptBallots;
+    }
+
+    toldOfBallots(call, sides, ...positions) {
+        return this.erd.toldOfBallots(call, sides.map((side) => this.sides[side].bytes), { prefer: this.prefer }, ...positions);
     }
 
     // Which ballots differ, by the proved code.
@@ -265,7 +269,7 @@ export class Judgement {
     }
 
     keptOverview(tell) {
-        this.overviewOfFile ??= new Overview(this.meanings(tell)[0], this.seen);
+        this.overviewOfFile ??= new Overview(this.meanings(tell)[0], this.seen, this.ballots(tell).toldHeads(0));
         return this.overviewOfFile;
     }
 

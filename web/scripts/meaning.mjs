@@ -1,8 +1,7 @@
 // The objects of a canonical form by their keys: docs/PROFILE.md, "What a report means". It serves to name what the proved code tells by
 // keys, and to show ballots. What differs comes from the proved code.
 import { ENVELOPE } from './envelope.mjs';
-import { compactText } from '../../bindings/js/lib/exact.mjs';
-import { orderOfKeys, orderOfTexts, textOfKey } from '../../bindings/js/lib/order.mjs';
+import { orderOfKeys, textOfKey } from '../../bindings/js/lib/order.mjs';
 import { titleOf } from './trail.mjs';
 
 /** The parts of a meaning, in the order of their differences. */
@@ -42,7 +41,6 @@ export class Meaning {
         this.report = report;
         this.things = new Map(PARTS.map((part) => [part, new Map()]));
         this.named = new Map();
-        this.selections = new Map();
         this.addReport(report);
     }
 
@@ -67,9 +65,6 @@ export class Meaning {
         this.things.get(thing.part).set(textOfKey(thing.key), thing);
         if (Object.hasOwn(thing.object, '@id')) {
             this.named.set(thing.object['@id'], thing);
-        }
-        if (thing.part === 'contest') {
-            (thing.object.ContestSelection ?? []).forEach((selection) => this.selections.set(selection['@id'], selection));
         }
     }
 
@@ -103,20 +98,5 @@ export class Meaning {
     isCandidate(person) {
         this.candidates ??= new Set([...this.things.get('candidate').values()].map(({ object }) => this.named.get(object.PersonId)));
         return this.candidates.has(person);
-    }
-
-    // One text for each object that is named, in an order that hangs on their keys alone.
-    keysNamed(references) {
-        return references.map((reference) => this.named.get(reference)).map(({ part, key }) => textOfKey([part, key])).sort(orderOfTexts);
-    }
-
-    /** One text for the name of a selection in its contest. */
-    selectionName(selection) {
-        const { CandidateIds, PartyIds, IsWriteIn, SequenceOrder, Selection } = selection;
-        const isMeasure = selection['@type'] === 'ElectionResults.BallotMeasureSelection';
-        const isCandidate = selection['@type'] === 'ElectionResults.CandidateSelection';
-        const named = isCandidate ? CandidateIds : isMeasure ? [] : PartyIds;
-        return compactText([selection['@type'], this.keysNamed(named ?? []), isCandidate && IsWriteIn === true,
-            SequenceOrder ?? null, isMeasure ? Selection : null, this.keyOf(selection)]);
     }
 }

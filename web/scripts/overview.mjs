@@ -1,5 +1,5 @@
-// What a file has: how many objects of each kind, which ballot styles each precinct has, and contests that no ballot has. It is the page's
-// own reading of the canonical form.
+// What a file has: how many objects of each kind, which ballot styles each precinct has, and contests that no ballot has. The units of the
+// ballot styles come from the proved code; all else is the page's own reading of the canonical form.
 import { orderForReader } from './texts.mjs';
 import { showsOf } from './seen.mjs';
 import { textOfTriple } from './values.mjs';
@@ -15,11 +15,12 @@ export class Overview {
     /**
      * @param {import('./meaning.mjs').Meaning} meaning
      * @param {Record<string, Record<string, string>>} seen what a voter sees: the table of docs/PROFILE.md
+     * @param {{key: string[], parties: string[][], units: string[][]}[]} heads what `erd_ballots` tells of the ballot styles
      */
-    constructor(meaning, seen) {
+    constructor(meaning, seen, heads) {
         this.meaning = meaning;
         this.seen = seen;
-        this.rows = precinctsOf(meaning);
+        this.rows = precinctsOf(meaning, heads);
         this.groups = { all: this.rows, none: this.rows.filter(({ count }) => count === 0), several: this.rows.filter(({ several }) => several) };
     }
 
@@ -39,12 +40,12 @@ export class Overview {
 }
 
 // The precincts that have no precinct in them, by name. A ballot style is for a precinct if it names it or a unit around it.
-function precinctsOf(meaning) {
+function precinctsOf(meaning, heads) {
     const units = [...meaning.things.get('unit').values()];
-    const around = aroundOf(meaning, units);
-    const styles = stylesByUnit(meaning);
+    const around = aroundOf(meaning);
+    const styles = stylesByUnit(meaning, heads);
     const isOuter = (unit) => (unit.object.ComposingGpUnitIds ?? []).some((reference) => isPrecinct(meaning.named.get(reference)));
-    return units.filter((unit) => isPrecinct(unit) && !isOuter(unit)).map((unit) => rowOf(unit, stylesOf(unit, around, styles)))
+    return units.filter((unit) => isPrecinct(unit) && !isOuter(unit)).map((unit) => rowOf(meaning, unit, stylesOf(unit, around, styles)))
         .sort((one, other) => orderForReader(one.name, other.name) || orderForReader(one.code, other.code));
 }
 
@@ -52,21 +53,21 @@ function isPrecinct(unit) {
     return PRECINCTS.has(unit.object.Type);
 }
 
-function rowOf(unit, styles) {
+function rowOf(meaning, unit, styles) {
     const codes = styles.map((style) => textOfTriple(style.key));
-    return { name: unit.title ?? '', code: textOfTriple(unit.key), count: styles.length, codes: codes.slice(0, MOST_STYLES), several: isRepeated(styles) };
+    return { name: unit.title ?? '', code: textOfTriple(unit.key), count: styles.length, codes: codes.slice(0, MOST_STYLES), several: isRepeated(meaning, styles) };
 }
 
 // Two ballot styles of one election for the same parties: nothing says which one a voter gets.
-function isRepeated(styles) {
-    const kinds = styles.map(({ election, object }) => JSON.stringify([election, [...object.PartyIds ?? []].sort()]));
+function isRepeated(meaning, styles) {
+    const kinds = styles.map(({ key, parties }) => JSON.stringify([meaning.thing('style', key).election, parties]));
     return new Set(kinds).size < kinds.length;
 }
 
-// The units of which each unit is a part.
-function aroundOf(meaning, units) {
+/** The units of which each unit is a part. */
+export function aroundOf(meaning) {
     const around = new Map();
-    for (const unit of units) {
+    for (const unit of meaning.things.get('unit').values()) {
         for (const reference of unit.object.ComposingGpUnitIds ?? []) {
             const part = meaning.named.get(reference);
             around.set(part, [...around.get(part) ?? [], unit].slice(0, MOST_AROUND));
@@ -75,11 +76,11 @@ function aroundOf(meaning, units) {
     return around;
 }
 
-function stylesByUnit(meaning) {
+function stylesByUnit(meaning, heads) {
     const styles = new Map();
-    for (const style of meaning.things.get('style').values()) {
-        for (const reference of style.object.GpUnitIds) {
-            const unit = meaning.named.get(reference);
+    for (const style of heads) {
+        for (const key of style.units) {
+            const unit = meaning.thing('unit', key);
             const there = styles.get(unit) ?? [];
             there.push(style);
             styles.set(unit, there);
@@ -88,17 +89,20 @@ function stylesByUnit(meaning) {
     return styles;
 }
 
-// The ballot styles of a unit and of all that is around it.
-function stylesOf(unit, around, styles) {
-    const found = new Set();
-    const seen = new Set([unit]);
-    for (const one of seen) {
-        (styles.get(one) ?? []).slice(0, MOST_AROUND).forEach((style) => found.add(style));
-        if (seen.size < MOST_AROUND) {
-            (around.get(one) ?? []).forEach((outer) => seen.add(outer));
+/** Units, and what is around them. */
+export function unitsAround(units, around) {
+    const found = new Set(units);
+    for (const one of found) {
+        if (found.size < units.length + MOST_AROUND) {
+            around.get(one)?.forEach((outer) => found.add(outer));
         }
     }
     return [...found];
+}
+
+// The ballot styles of a unit and of all that is around it.
+function stylesOf(unit, around, styles) {
+    return [...new Set(unitsAround([unit], around).flatMap((one) => (styles.get(one) ?? []).slice(0, MOST_AROUND)))];
 }
 
 // The contests that no ballot has, by name.

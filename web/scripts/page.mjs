@@ -155,7 +155,7 @@ class Page {
             names: files.map((file) => file.name), files, prefer: this.prefer,
             isCurrent, tell: (progress) => isCurrent() && this.progress(progress, files),
             offerTypes: (types, isOpen) => this.offerTypes(types, isOpen), prefers: (type) => this.prefers(type),
-            takesCopy: (index, copy) => this.choice.exchange(index, copy), again: () => this.again(),
+            takesCopies: (copies) => this.choice.exchange(copies), again: () => this.again(),
         });
         await this.shown(result, isCurrent);
         if (isCurrent()) {

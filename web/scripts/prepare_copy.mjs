@@ -24,11 +24,14 @@ export function copyKnown(file) {
 export class CopyMaker {
     /**
      * @param {import('./client.mjs').Client} client
-     * @param {{index: number, name: string, takesCopy: (index: number, copy: File) => void}} known
+     * @param {{index: number, files: File[], names: string[], isPair: boolean, takesCopies: (copies: File[]) => void}} known the file,
+     *     by its place among those that were chosen; whether these are two, each of which can be prepared; and what judges others in
+     *     their place
      */
     constructor(client, known) {
         Object.assign(this, known);
         this.client = client;
+        this.name = this.names[this.index];
         this.body = element('div', { class: 'preparing', 'data-shown': '0' });
     }
 
@@ -41,8 +44,8 @@ export class CopyMaker {
     }
 
     /** Asks what these steps do, and shows it. The focus stays where it was. */
-    async show(names, focus = null) {
-        const steps = await this.asked('preparation', { index: this.index, steps: names }).catch((error) => (error instanceof Cancelled ? error : undefined));
+    async show(chosen, focus = null) {
+        const steps = await this.asked('preparation', { index: this.index, steps: chosen }).catch((error) => (error instanceof Cancelled ? error : undefined));
         this.body.dataset.shown = String(Number(this.body.dataset.shown) + 1);
         if (steps instanceof Cancelled) {
             this.cancelled();
@@ -98,7 +101,7 @@ export class CopyMaker {
 
     step(step) {
         const id = `step-${this.index}-${step.name}`;
-        const box = element('input', { type: 'checkbox', id, 'data-step': step.name, checked: step.done, change: () => this.show(this.names(), id) });
+        const box = element('input', { type: 'checkbox', id, 'data-step': step.name, checked: step.done, change: () => this.show(this.steps(), id) });
         return element('li', {},
             element('p', {}, element('label', { for: id }, box, ' ', element('strong', {}, say(`step.${step.name}`))),
                 step.count === 0 ? null : element('span', { class: 'count' }, ` ${say('prepare.count', { count: step.count })}`)),
@@ -106,36 +109,48 @@ export class CopyMaker {
             step.count === 0 ? null : preview(step), step.leftCount === 0 ? null : leftOf(step));
     }
 
-    names() {
+    steps() {
         return [...this.body.querySelectorAll('input:checked')].map((box) => box.dataset.step);
     }
 
     buttons(isChanged) {
         return element('p', { class: 'buttons' },
             button(say('prepare.check'), () => this.check(), { class: 'main', id: `prepare-check-${this.index}`, disabled: !isChanged }),
-            button(say('prepare.save'), async () => save(await this.copy(), this.copyName), { disabled: !isChanged }),
-            button(say('prepare.saveChanges'), async () => save(new Blob(await this.asked('preparedChanges', this.question())),
-                `${this.copyName.replace(/\.json$/, '')}.changes.json`), { disabled: !isChanged }));
+            this.isPair ? button(say('prepare.both'), () => this.checkBoth(), { id: `prepare-both-${this.index}`, disabled: !isChanged }) : null,
+            button(say('prepare.save'), async () => save(await this.copyOf(this.index), copyName(this.name)), { disabled: !isChanged }),
+            button(say('prepare.saveChanges'), async () => save(new Blob(await this.asked('preparedChanges', this.question(this.index))),
+                `${copyName(this.name).replace(/\.json$/, '')}.changes.json`), { disabled: !isChanged }));
     }
 
-    question() {
-        return { index: this.index, steps: this.names() };
+    question(index) {
+        return { index, steps: this.steps() };
     }
 
-    get copyName() {
-        return `${plainName(this.name).replace(/\.raw$/i, '')}.prepared.json`;
-    }
-
-    async copy() {
-        const { bytes, ...known } = await this.asked('preparedCopy', this.question());
-        const copy = new File([bytes], this.copyName, { type: 'application/json' });
+    // The copy of a file on which the chosen steps were done, or the file itself where these change nothing.
+    async copyOf(index) {
+        const { bytes, ...known } = await this.asked('preparedCopy', this.question(index));
+        if (known.steps.length === 0) {
+            return this.files[index];
+        }
+        const copy = new File([bytes], copyName(this.names[index]), { type: 'application/json' });
         COPIES.set(copy, known);
         return copy;
     }
 
     async check() {
-        this.takesCopy(this.index, await this.copy());
+        const copy = await this.copyOf(this.index);
+        this.takesCopies(this.files.map((file, index) => (index === this.index ? copy : file)));
     }
+
+    // Both files, prepared by the same steps, in the place of both.
+    async checkBoth() {
+        this.takesCopies([await this.copyOf(0), await this.copyOf(1)]);
+    }
+}
+
+/** The name of the copy of a file of this name. */
+export function copyName(name) {
+    return `${plainName(name).replace(/\.raw$/i, '')}.prepared.json`;
 }
 
 // Numbers that the copy has in another form, before any step.

@@ -6,14 +6,22 @@ import { CopyMaker } from './prepare_copy.mjs';
 import { whyNotConverted } from './from_xml/shown.mjs';
 import { say } from './texts.mjs';
 
-/** The sections of all files that have any. */
-export async function troublesOf(files, names, client, { fixes, takesCopy }) {
-    const sections = await Promise.all(files.map((file, index) => sectionsOf(file, { index, name: names[index], client, fixes, takesCopy })));
+/** The sections of all files that have any. `chosen` are the files, and `takesCopies` judges others in their place. */
+export async function troublesOf(files, names, client, { fixes, chosen, takesCopies }) {
+    const isPair = files.length === 2 && files.every(canBePrepared);
+    const sections = await Promise.all(files.map((file, index) => {
+        const preparing = () => new CopyMaker(client, { index, names, files: chosen, isPair, takesCopies }).section();
+        return sectionsOf(file, { index, name: names[index], client, fixes, preparing });
+    }));
     return sections.flat();
 }
 
-async function sectionsOf(file, { index, name, client, fixes, takesCopy }) {
-    const preparing = () => new CopyMaker(client, { index, name, takesCopy }).section();
+// A report, accepted or refused.
+function canBePrepared({ outcome, other }) {
+    return outcome === 'accepted' || outcome === 'refused' && other === undefined;
+}
+
+async function sectionsOf(file, { index, name, client, fixes, preparing }) {
     if (file.outcome === 'notJson') {
         const why = whyNotConverted(file);
         return [...(file.trouble.why === 'byteOrderMark' && why === null ? [preparing()] : []), notJson(file.trouble, why, { name, index, fix: fixes['not JSON'] })];

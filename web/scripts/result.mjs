@@ -30,8 +30,8 @@ export class Result {
      * @param {{client: import('./client.mjs').Client, again: () => void, data: object, top: HTMLElement, holder: HTMLElement,
      *     names: string[], files: File[], prefer: string | null,
      *     isCurrent: () => boolean, tell: (progress: object) => void, offerTypes: (types: string[]) => void,
-     *     prefers: (type: string) => void, takesCopy: (index: number, copy: File) => void}} known `prefers` judges again under a
-     *     type of identifier, and `takesCopy` judges a prepared copy in place of a file
+     *     prefers: (type: string) => void, takesCopies: (copies: File[]) => void}} known `prefers` judges again under a type of
+     *     identifier, and `takesCopies` judges prepared copies in place of the files
      */
     constructor(known) {
         Object.assign(this, known);
@@ -78,7 +78,8 @@ export class Result {
             await this.showBeginning();
             await this.list();
         }
-        this.put('troubles', ...await troublesOf(this.answer.files, this.names, this.client, { fixes: this.data.fixes, takesCopy: this.takesCopy }));
+        this.put('troubles', ...await troublesOf(this.answer.files, this.names, this.client,
+            { fixes: this.data.fixes, chosen: this.files, takesCopies: this.takesCopies }));
         this.sums = await this.client.ask('sums', {}, this.tell);
         if (!this.isCurrent()) {
             return;

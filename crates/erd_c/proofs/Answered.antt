@@ -12,8 +12,8 @@ use Rattle.erd_canon.specs.declared.data.piece.Piece.{Piece}
 use Rattle.erd_canon.specs.declared.data.piece.PieceAnswer.{PieceAnswer}
 use Rattle.erd_canon.specs.declared.data.piece.Told.{Told as PieceTold}
 use Rattle.erd_c.specs.Told.{HasCanonicalText, HasNoText, IsCall, IsPieceCall, IsPieceTold, IsTelling, IsToldNothing, IsToldOf, IsWrong, piece_of, preference}
-use Rattle.erd_c.specs.declared.told.Told.{Told}
-use Rattle.erd_c.specs.declared.told.Wanted.{Wanted}
+use Rattle.erd_c.specs.declared.call_result.Told.{Told}
+use Rattle.erd_c.specs.declared.call_result.Wanted.{Wanted}
 
 -- a reader of these bytes that is at its end gave them
 all_came : (bytes given came : List ℕ) (limit : ℕ) (after : Option (List ℕ)) → given ≡ bytes → IsReadWhole limit (Some given) after came → came ≡ bytes

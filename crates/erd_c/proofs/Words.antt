@@ -13,7 +13,7 @@ use Rattle.erd_canon.specs.declared.commands.request.LineFault.TheVariants.{Help
 use Rattle.erd_canon.specs.declared.commands.request.Request.{Request}
 use Rattle.erd_c.specs.Lines.{AreTexts, IsLineCall, IsWordsAnswer, begun_with, line_number, words_in}
 use Rattle.erd_c.specs.Told.{IsPut}
-use Rattle.erd_c.specs.declared.told.Told.{Told}
+use Rattle.erd_c.specs.declared.call_result.Told.{Told}
 
 -- the words with these bytes before the first of them
 abbrev pub joined : List ℕ → List (List ℕ) → List (List ℕ)

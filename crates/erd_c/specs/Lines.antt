@@ -3,7 +3,7 @@ use Rattle.std.specs.Prelude.{◌≡◌, ◌≢◌, ◌⊎◌, ◌++◌, ◌∷�
 use Rattle.std.specs.Str.{IsUtf8}
 use Rattle.erd_canon.specs.LineAnswers.{IsLineData}
 use Rattle.erd_c.specs.Told.{HasNoText, IsPut}
-use Rattle.erd_c.specs.declared.told.Told.{Told}
+use Rattle.erd_c.specs.declared.call_result.Told.{Told}
 
 -- The words with this byte before the first of them, or with a first word of this byte alone if there are none.
 abbrev pub begun_with : ℕ → List (List ℕ) → List (List ℕ)

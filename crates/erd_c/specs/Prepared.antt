@@ -10,7 +10,7 @@ use Rattle.erd_prepare.specs.declared.step_done.Others.TheVariants as others
 use Rattle.erd_prepare.specs.declared.step_done.PreparedBytes.{PreparedBytes}
 use Rattle.erd_prepare.specs.declared.step_name.StepName.{StepName}
 use Rattle.erd_c.specs.Told.{HasNoText, IsPut}
-use Rattle.erd_c.specs.declared.told.Told.{Told}
+use Rattle.erd_c.specs.declared.call_result.Told.{Told}
 
 -- The words of a caller choose these steps.
 pub record IsChosenBy (words : List ℕ) (chosen : List StepName) : Type 0 where

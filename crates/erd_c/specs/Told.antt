@@ -10,8 +10,8 @@ use Rattle.erd_canon.specs.declared.data.piece.Piece.{Piece}
 use Rattle.erd_canon.specs.declared.data.piece.Told.{Told as PieceTold}
 use Rattle.erd_canon.specs.declared.engines.outcome.Outcome.{Outcome}
 use Rattle.erd_canon.specs.declared.engines.outcome.Outcome.TheVariants.{Good, Bad, NotJson}
-use Rattle.erd_c.specs.declared.told.Told.{Told}
-use Rattle.erd_c.specs.declared.told.Wanted.{Wanted}
+use Rattle.erd_c.specs.declared.call_result.Told.{Told}
+use Rattle.erd_c.specs.declared.call_result.Wanted.{Wanted}
 
 -- The preference that a call is given: this text if the flag is set, and otherwise none.
 abbrev pub preference : Bool → List ℕ → Preference

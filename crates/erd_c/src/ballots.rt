@@ -7,7 +7,7 @@ ghost use Rattle.erd_canon.specs.declared.data.ballots.BallotsAsked.TheVariants.
 ghost use Rattle.erd_c.specs.Told.{IsCall};
 
 use crate::answers::Answer;
-use crate::told::{Told, given, tell};
+use crate::call_result::{Told, given, tell};
 use erd_canon::{
     BallotsAsked, ballot_differences_data_with, ballots_beside_data_with, ballots_data_with,
 };

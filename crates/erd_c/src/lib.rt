@@ -16,22 +16,22 @@ ghost use Rattle.erd_c.specs.Told.{HasCanonicalText, IsCall, IsPieceCall};
 
 mod answers;
 mod ballots;
+mod call_result;
 mod line;
 mod prepared;
 mod questions;
-mod told;
 
 use answers::{canonical, checked, checked_data, compared, compared_data};
 pub use ballots::{
     Positions, erd_tell_ballot, erd_tell_ballot_differences, erd_tell_ballots,
     erd_tell_ballots_beside,
 };
+pub use call_result::{Told, Wanted};
+use call_result::{given, tell};
 pub use line::erd_tell_command_line;
 pub use prepared::erd_tell_prepared;
 use questions::Question;
 use std::alloc::Global;
-pub use told::{Told, Wanted};
-use told::{given, tell};
 
 /// Checks a report, as `erd check` does.
 ///

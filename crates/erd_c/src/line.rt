@@ -4,7 +4,7 @@ ghost use Rattle.std.specs.Prelude.{◌≡◌, ◌++◌, ◌∷◌, [], map, len
 ghost use Rattle.erd_c.specs.Lines.{AreTexts, IsLineCall, IsWordsAnswer, line_number, words_in};
 ghost use Rattle.erd_c.specs.Told.{IsPut};
 
-use crate::told::{Told, put, textless};
+use crate::call_result::{Told, put, textless};
 use erd_canon::{LineAnswer, command_line_data};
 use std::alloc::{AllocError, Global};
 use std::str;

@@ -4,7 +4,7 @@ ghost use Rattle.erd_canon.specs.Limits.{most_bytes};
 ghost use Rattle.erd_prepare.specs.declared.step_name.StepName.{StepName};
 ghost use Rattle.erd_c.specs.Prepared.{IsChosenBy, IsPrepareCall, IsPreparedText, IsUnpreparedBy, others_asked, prepared_text};
 
-use crate::told::{Told, put, textless};
+use crate::call_result::{Told, put, textless};
 use erd_canon::MOST_BYTES;
 use erd_prepare::{Others, PrepareError, PreparedBytes, StepName, prepare_bytes, steps_named};
 use std::alloc::{AllocError, Global};

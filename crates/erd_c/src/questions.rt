@@ -5,7 +5,7 @@ ghost use Rattle.std.specs.Option.{option_copied};
 ghost use Rattle.erd_c.specs.Told.{IsPieceCall};
 ghost use Rattle.erd_c.specs.code.Questions.{answers_of, longest_of};
 
-use crate::told::{Told, Wanted, given, tell_nothing, tell_piece};
+use crate::call_result::{Told, Wanted, given, tell_nothing, tell_piece};
 use erd_canon::{
     Piece, PieceAnswer, canonical_data_piece, canonical_text_piece, check_data_piece,
     check_text_piece, compare_data_piece, compare_text_piece, differences_data_piece,

@@ -7,7 +7,7 @@ use Rattle.erd_canon.proofs.examples.EngineExamples.{null_refused, root_kind}
 use Rattle.erd_canon.specs.Run.{IsChecked}
 use Rattle.erd_canon.specs.declared.engines.outcome.Outcome.TheVariants.{Bad}
 use Rattle.erd_c.specs.Told.{IsCall, IsPut, IsTelling, IsWrong}
-use Rattle.erd_c.specs.declared.told.Told.{Told}
+use Rattle.erd_c.specs.declared.call_result.Told.{Told}
 
 -- ---- what is put into the room
 

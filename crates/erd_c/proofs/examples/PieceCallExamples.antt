@@ -9,8 +9,8 @@ use Rattle.erd_canon.specs.declared.data.piece.Told.{Told as PieceTold}
 use Rattle.erd_canon.specs.declared.engines.outcome.Outcome.TheVariants.{Bad}
 use Rattle.erd_c.proofs.examples.CallExamples.{fault_told, line_told, right_arguments}
 use Rattle.erd_c.specs.Told.{IsPieceCall, IsTelling}
-use Rattle.erd_c.specs.declared.told.Told.{Told}
-use Rattle.erd_c.specs.declared.told.Wanted.{Wanted}
+use Rattle.erd_c.specs.declared.call_result.Told.{Told}
+use Rattle.erd_c.specs.declared.call_result.Wanted.{Wanted}
 
 -- the piece from here on, of which one byte is enough, before a call and after it told so many entries of one
 abbrev wanted : ℕ → Wanted

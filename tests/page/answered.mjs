@@ -1,0 +1,39 @@
+// For the tests of the page in Node: what the page answers on the ballots of reports that a test makes. The proved code judges them, so each
+// report has to be accepted.
+import { readFileSync } from 'node:fs';
+import { load } from '../../bindings/js/index.mjs';
+import { readExactly } from '../../bindings/js/lib/exact.mjs';
+import { BallotAnswers } from '../../web/scripts/ballot_answers.mjs';
+import { Meaning } from '../../web/scripts/meaning.mjs';
+import { ROOT } from './counted.mjs';
+
+const erd = await load(readFileSync(new URL('out/portable/erd.wasm', ROOT)));
+
+/** The answers on the ballots of one file or two, as bytes. */
+export function ballotsIn(...files) {
+    const meanings = files.map((bytes) => erd.canonical(bytes)).map((form) => {
+        if (!form.accepted) {
+            throw new Error(form.text);
+        }
+        return new Meaning(readExactly(form.bytes), null);
+    });
+    const ask = (call, sides, ...positions) => erd.toldOfBallots(call, sides.map((side) => files[side]), {}, ...positions);
+    return new BallotAnswers(meanings, files.length < 2 ? [] : ask('erd_ballot_differences', [0, 1]), ask);
+}
+
+/** The same of reports, with what a test leaves out and each report has to have. */
+export function ballotsOf(...reports) {
+    return ballotsIn(...reports.map((report) => new TextEncoder().encode(JSON.stringify(completed(report)))));
+}
+
+function completed(report) {
+    const [{ '@id': unit }] = report.GpUnit;
+    return {
+        Status: 'pre-election', ...report, GpUnit: report.GpUnit.map((one) => ({ Type: 'precinct', ...one })),
+        Election: report.Election.map((election) => ({
+            Type: 'general', EndDate: election.StartDate, ElectionScopeId: unit, ...election,
+            Contest: election.Contest.map((contest) => ({
+                ElectionDistrictId: unit, ...(contest['@type'] === 'ElectionResults.CandidateContest' ? { VotesAllowed: 1 } : {}), ...contest })),
+        })),
+    };
+}
