@@ -70,15 +70,15 @@ const ordered = report((election) => { election.BallotStyle[0].OrderedContent[1]
 const other = report((election) => { election.BallotStyle[0].OrderedContent[1].OrderedContestSelectionIds = ['cs1', 'cs2']; });
 for (const [name, left, right] of [['the right file alone', report(), ordered], ['the left file alone', ordered, report()]]) {
     const two = ballotsOf(left, right);
-    equal(`an order that ${name} fixes: the ballots differ`, two.seen(), { all: 1, differing: 1, same: 0, alike: 1 });
+    equal(`an order that ${name} fixes: the ballots differ`, two.seen(), { all: 1, differing: 1, same: 0 });
     const { items } = two.ballot({ key });
     equal(`an order that ${name} fixes: it is told`, items.map(({ ordered: isOrder }) => isOrder), [true, false]);
     equal(`an order that ${name} fixes: it is shown`, items[1].selections.map(({ lines: [{ texts }] }) => texts[0].pieces[0].text), ['Bo', 'Ann']);
 }
 const two = ballotsOf(ordered, other);
-equal('another order: the ballots differ', two.seen(), { all: 1, differing: 1, same: 0, alike: 0 });
+equal('another order: the ballots differ', two.seen(), { all: 1, differing: 1, same: 0 });
 equal('another order: one of two has moved', two.ballot({ key }).items[1].selections.filter(({ mark }) => mark === 'moved').length, 1);
-equal('the same order: the ballots are the same', ballotsOf(ordered, ordered).seen(), { all: 1, differing: 0, same: 1, alike: 0 });
+equal('the same order: the ballots are the same', ballotsOf(ordered, ordered).seen(), { all: 1, differing: 0, same: 1 });
 
 // What the file says of the candidates stands below their names, and rotation where the file says so.
 function known(election, [first, second], rotation) {
@@ -114,7 +114,7 @@ equal('titles in no language alone', lackingIn(titled('Measure A', 'Governor')),
 const LACKING = [['ConStatement', 0, 'ConStatement'], ['ProStatement', 0, 'ProStatement'], ['VoteVariation', 1, 'variation']];
 for (const [name, at, role] of LACKING) {
     const answers = ballotsOf(report(), report((election) => { delete election.Contest[at][name]; }));
-    equal(`without ${name}: the ballots differ`, answers.seen(), { all: 1, differing: 1, same: 0, alike: 0 });
+    equal(`without ${name}: the ballots differ`, answers.seen(), { all: 1, differing: 1, same: 0 });
     const line = answers.ballot({ key }).items[at].lines.find((some) => some.role === role);
     equal(`without ${name}: it is marked`, line.texts.flatMap(({ pieces }) => pieces.map(({ mark }) => mark)), ['removed']);
 }

@@ -119,7 +119,9 @@ def seen(session):
     session.judged(SMALL, changed(lambda report: report['Person'][0]['ExternalIdentifier'][0].update(Value='new')))
     # A candidate is another person's then, which some ballots show, and those of the page do not.
     session.equal('what a voter sees: another person', [session.text('.seen h3'), session.text('.seen h3 + p')],
-                  [answers.say('seen.differ', differing=1, all=1), answers.say('seen.alike', count=1)])
+                  [answers.say('seen.differ', differing=1, all=1), answers.say('seen.leftOut')])
+    session.equal('what a voter sees: another person, in a sentence', session.texts('.finding > summary'),
+                  ['Governor, on 1 of 1 ballots: ' + answers.say('finding.changed')])
 
 
 def look_alikes(session):

@@ -210,31 +210,29 @@ for (const [name, change] of Object.entries(CHANGES)) {
 }
 const subtitled = report((_made, election) => { election.Contest[0].BallotSubTitle = 'Full term'; });
 equal('a line that is gone', itemsOf(answersOf(subtitled, meaning), 'S2')[0][1].at(-1), ['BallotSubTitle', '<removed Full term>']);
-// A ballot that differs in what the page does not show, or in an identifier alone, differs all the same. It is said that it has the same words.
+// A ballot that differs in what the page does not show, or in an identifier alone, differs all the same, and there is a sentence on it.
 const abbreviated = report((made) => { made.Party[1].Abbreviation = 'G'; });
 const hidden = answersOf(meaning, abbreviated);
 const belowOf = (answers) => answers.styles({ words: '', group: 'all', from: 0, count: 9 }).entries.map(({ below, allBelow }) => [below, allBelow]);
 equal('what differs on a ballot', belowOf(hidden), [[['  changed contest ["local-level","","C1"]'], 1], [['  changed contest ["local-level","","C1"]'], 1]]);
-equal('a ballot that looks the same', [marksOf(hidden), marksOf(hidden, 'same')], [[['local-level S1', 'alike'], ['local-level S2', 'alike']], []]);
-equal('how many look the same', hidden.seen(), { all: 2, differing: 2, same: 0, alike: 2 });
+equal('a ballot that looks the same', [marksOf(hidden), hidden.seen()], [[['local-level S1', 'changed'], ['local-level S2', 'changed']], { all: 2, differing: 2, same: 0 }]);
 const sentencesOf = (answers) => new BallotFindings(answers).some({ words: '', from: 0, count: 99 }).entries
     .map(({ subject, what, choice = '', count }) => [subject, what, choice, count].join(' '));
 equal('what looks the same is told', sentencesOf(hidden), ['For Governor changed  2']);
 // Another identifier is told as one thing, and marked on both lines: the proved code tells one that is gone, and another one.
 const otherCandidate = report((_made, election) => { election.Candidate[2].ExternalIdentifier = identified('K9'); });
 const recoded = answersOf(meaning, otherCandidate);
-equal('another identifier', [sentencesOf(recoded), marksOf(recoded)],
-    [['For Governor choice.renamed Cy 2'], [['local-level S1', 'alike'], ['local-level S2', 'alike']]]);
+equal('another identifier', sentencesOf(recoded), ['For Governor choice.renamed Cy 2']);
 equal('another identifier: its lines', recoded.ballot({ key: keyOf('S1') }).items[1].selections.filter(({ renamed: isOther }) => isOther).map(({ mark }) => mark),
     ['removed', 'added']);
 const otherContest = answersOf(meaning, report((_made, election) => { election.Contest[0].ExternalIdentifier = identified('C9'); }));
 equal('a contest with another identifier', [sentencesOf(otherContest), otherContest.ballot({ key: keyOf('S2') }).items.map(({ mark, renamed: isOther }) => [mark, isOther])],
     [['For Governor renamed  2'], [['removed', true], ['added', true]]]);
 const otherUnit = answersOf(meaning, report((made) => { made.GpUnit[1].Number = '7'; }));
-equal('a unit with another number', [sentencesOf(otherUnit), marksOf(otherUnit)], [[' changed  1'], [['local-level S1', 'alike'], ['local-level S2', '']]]);
+equal('a unit with another number', [sentencesOf(otherUnit), marksOf(otherUnit)], [[' changed  1'], [['local-level S1', 'changed'], ['local-level S2', '']]]);
 const otherCode = answersOf(meaning, report((_made, election) => { election.BallotStyle[1].ExternalIdentifier = identified('S9'); }));
 equal('a style under another code', [marksOf(otherCode), otherCode.seen()],
-    [[['local-level S1', ''], ['local-level S2', 'removed'], ['local-level S9', 'added']], { all: 3, differing: 2, same: 1, alike: 0 }]);
+    [[['local-level S1', ''], ['local-level S2', 'removed'], ['local-level S9', 'added']], { all: 3, differing: 2, same: 1 }]);
 equal('the same ballots', marksOf(answersOf(meaning, report()), 'same'), [['local-level S1', ''], ['local-level S2', '']]);
 equal('a ballot with all the words', one.styles({ words: 'east WEST', group: 'all', from: 0, count: 9 }).entries.map(({ code }) => code), ['local-level S1']);
 // Units around those of a style are found, and what is not around them is not.

@@ -26,8 +26,6 @@ ENVELOPE = ['Format', 'GeneratedDate', 'Issuer', 'IssuerAbbreviation', 'VendorAp
 LETTERS = '0123456789ABCDEFGHJKMNPQRSTVWXYZ'
 
 # What a voter sees: the words of the profile, the class of each part in the small ballot, and the list that its objects are in.
-SHOWN = {'election': ('Name', 'StartDate'), 'unit': ('Name',), 'party': ('Name',), 'header': ('Name',), 'candidate': ('BallotName', 'PartyId'),
-         'contest': ('Name', 'VotesAllowed', 'ContestSelection'), 'style': ('GpUnitIds', 'PartyIds', 'OrderedContent')}
 # The members of which the proved code compares what ballots print. What is carried is compared too. The county of the small ballot is on no ballot.
 PRINTED = {'party': ('Name', 'Abbreviation', 'Slogan'), 'header': ('Name',),
            'person': ('FullName', 'FirstName', 'LastName', 'Title', 'Profession', 'PartyId'),
@@ -247,10 +245,6 @@ class Result:
         """How many ballots differ, and how many there are."""
         return self.row.get('ballots', [int(any(entry['how'] == 'member' and self.is_printed(entry) for entry in self.entries)), 1])
 
-    def look_different(self):
-        """Whether ballots differ in what the page shows of them."""
-        return self.differing()[0] > 0 and any(entry['how'] == 'member' and self.is_shown(entry) for entry in self.entries)
-
     @staticmethod
     def is_printed(entry):
         """Whether a difference in this member makes the ballots differ."""
@@ -261,11 +255,6 @@ class Result:
         parts = say(f'parts.{part}')
         return say('seen.leftOut.member', parts=parts, member=member_words(member), count=count) if is_member else \
             say('seen.leftOut.object', parts=parts, count=count)
-
-    @staticmethod
-    def is_shown(entry):
-        """Whether the ballots of the page show what differs."""
-        return entry['part'] in SHOWN and (entry['how'] != 'member' or entry.get('member') in SHOWN[entry['part']])
 
     def word(self, entry):
         if entry['how'] != 'member':
@@ -394,9 +383,8 @@ class Result:
             ordered = sorted(self.entries, key=lambda entry: ('seen', 'in doubt', 'unseen').index(self.word(entry))) if self.has_names else self.entries
             entries = [self.sentence_on(entry) + ''.join(self.inside(entry)[1:] or values_filed(entry)) for entry in ordered]
         is_told = self.is_listed and self.has_names
-        alike = [say('seen.alike', count=self.differing()[0])] if is_told and self.differing()[0] > 0 and not self.look_different() else []
         left_out = [say('seen.leftOut')] if is_told and self.left_out() else []
-        paragraphs = [*self.notices(), *alike, *left_out, say('record.proved'), say('record.notProved'), *self.signed()]
+        paragraphs = [*self.notices(), *left_out, say('record.proved'), say('record.notProved'), *self.signed()]
         return {'headings': headings, 'entries': entries, 'paragraphs': paragraphs}
 
     def signed(self):

@@ -78,13 +78,12 @@ const NOTICES = {
 
 const LEFT_OUT = [{ part: 'office', how: 'member', member: 'Name', count: 2 }, { part: 'person', how: 'only left', member: null, count: 1 }];
 const NO_BALLOT = [{ part: 'unit', how: 'member', member: 'IsDistricted', count: 3 }];
-const seen = (differing, all, leftOut, count, listed, unseen = 0, alike = 0) => {
-    const shown = seenBox({ count, listed, seen: { ballots: { differing, all, alike }, leftOut, unseen, noBallot: NO_BALLOT } });
+const seen = (differing, all, leftOut, count, listed, unseen = 0) => {
+    const shown = seenBox({ count, listed, seen: { ballots: { differing, all }, leftOut, unseen, noBallot: NO_BALLOT } });
     return [shown.attributes.class, linesOf(shown).slice(0, -1)];
 };
 const SEEN = {
     'ballots that differ': seen(2, 5, [], 3, 3),
-    'ballots that differ and look the same': [seen(2, 5, [], 3, 3, 0, 2), seen(2, 5, [], 3, 3, 0, 1)],
     'nothing that a voter sees': seen(0, 5, [], 3, 3, 3),
     'equal ballots, and what they leave out': seen(0, 5, LEFT_OUT, 3, 3),
     'no ballots, and what they leave out': seen(0, 0, LEFT_OUT, 3, 3),

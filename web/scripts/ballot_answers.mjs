@@ -2,7 +2,7 @@
 // from the proved code, and the words from the canonical form.
 import { orderOfKeys, textOfKey } from '../../bindings/js/lib/order.mjs';
 import { besideItself, BothBallots, mergedLines } from './ballot_changes.mjs';
-import { BallotThings, haveSameWords } from './ballot_things.mjs';
+import { BallotThings } from './ballot_things.mjs';
 import { BallotWords } from './ballots.mjs';
 import { aroundOf, unitsAround } from './overview.mjs';
 import { hasWords } from './search.mjs';
@@ -63,10 +63,9 @@ export class BallotAnswers {
         return { counts, entries: entries.map((head) => ({ ...head, ...linesBelow(this.differing.get(head.key)?.below ?? '') })) };
     }
 
-    /** How many ballot styles there are, how many of them differ, and how many of these have the same words here. */
+    /** How many ballot styles there are, and how many of them differ. */
     seen() {
-        const { counts } = this.styles({ words: '', group: null, from: 0, count: 0 });
-        return { ...counts, alike: this.heads().filter(({ mark }) => mark === 'alike').length };
+        return this.styles({ words: '', group: null, from: 0, count: 0 }).counts;
     }
 
     // What a ballot style is found by: what it is called, and the names, numbers and codes of its units and of those around them.
@@ -77,8 +76,7 @@ export class BallotAnswers {
         return [code, ...units, ...parties, ...found.flatMap(wordsOfUnit)];
     }
 
-    // The head of each style, with whether it differs. One that differs may have the same words here: other identifiers have them, or something
-    // differs that is not shown.
+    /** The head of each style, with whether it differs. */
     heads() {
         this.keptHeads ??= this.keys().map((key) => ({ key, ...this.headsOf(key, (words, told) => words.head(told))[1], mark: this.markOf(key) }));
         return this.keptHeads;
@@ -101,7 +99,7 @@ export class BallotAnswers {
             return '';
         }
         const { left, right } = this.differing.get(key);
-        return right === null ? 'removed' : left === null ? 'added' : haveSameWords(this.thingsOn(key)) ? 'alike' : 'changed';
+        return right === null ? 'removed' : left === null ? 'added' : 'changed';
     }
 
     /** What differs on the ballots of a style of both files. */

@@ -12,7 +12,7 @@ export class BallotFindings {
         const heads = answers.heads();
         this.all = heads.length;
         for (const head of heads.filter(({ mark }) => mark !== '')) {
-            const things = head.mark === 'changed' || head.mark === 'alike' ? answers.thingsOn(head.key) : [{ kind: 'style', subject: '', what: head.mark }];
+            const things = head.mark === 'changed' ? answers.thingsOn(head.key) : [{ kind: 'style', subject: '', what: head.mark }];
             things.forEach((thing) => this.add(head, thing));
         }
         this.entries = [...this.found.values()].sort((one, other) => other.count - one.count);

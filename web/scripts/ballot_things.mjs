@@ -13,14 +13,6 @@ const VOTERS = new Set(['parties', 'units']);
 const AROUND = 40;
 const LONGEST = 160;
 
-// What has the same words in both files.
-const WORDLESS = new Set(['changed', 'renamed', 'choice.renamed']);
-
-/** Whether none of the things has other words in one of the files. */
-export function haveSameWords(things) {
-    return things.every(({ what }) => WORDLESS.has(what));
-}
-
 export class BallotThings {
     /** @param {import('./ballots.mjs').BallotWords[]} sides */
     constructor(sides) {

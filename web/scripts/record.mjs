@@ -3,7 +3,7 @@ import { button, element, long, save, saidWith, theirs } from './dom.mjs';
 import { ENVELOPE } from './envelope.mjs';
 import { convertedRecorded, savedName } from './from_xml/shown.mjs';
 import { copyRecorded } from './prepare_copy.mjs';
-import { alikeShown, leftOutShown, partShown, seenSentence } from './seen_box.mjs';
+import { leftOutShown, partShown, seenSentence } from './seen_box.mjs';
 import { sumShown } from './sums.mjs';
 import { numberText, say } from './texts.mjs';
 import { shortened } from './visible.mjs';
@@ -35,7 +35,7 @@ export function recordOf(known, client) {
 // What only the printed record has.
 function filed({ notices, findings, listed, ...known }) {
     return element('div', { class: 'filed' }, ...notices.map((heading) => element('p', {}, element('strong', {}, ...heading))),
-        ...(listed?.seen ? [...alikeShown(listed), ...partShown(listed), ...leftOutShown(listed.seen.leftOut)] : []), findings,
+        ...(listed?.seen ? [...partShown(listed), ...leftOutShown(listed.seen.leftOut)] : []), findings,
         element('div', { class: 'signing' }, element('p', {}, say('record.proved')), element('p', {}, say('record.notProved')),
             ...signed(known), signatures()));
 }

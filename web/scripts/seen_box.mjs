@@ -17,15 +17,10 @@ export function seenBox(listed) {
     const { count, seen: { ballots, leftOut, noBallot, unseen } } = listed;
     const isQuiet = ballots.differing === 0 && leftOut.length === 0 && listed.listed === count;
     return element('section', { class: `seen ${isQuiet ? 'quiet' : 'touched'}`, 'aria-labelledby': 'seen' },
-        element('h3', { id: 'seen' }, seenSentence(listed)), ...alikeShown(listed), ...leftOutShown(leftOut), ...partShown(listed),
+        element('h3', { id: 'seen' }, seenSentence(listed)), ...leftOutShown(leftOut), ...partShown(listed),
         unseen === 0 ? null : element('p', {}, say('seen.count.unseen', { count: unseen }), ' ', say('seen.of', { count })),
         unseen === 0 ? null : kindsShown(noBallot, 'no-ballot'),
         element('p', { class: 'note' }, say('seen.note'), ' ', documentButton('profile')));
-}
-
-/** How many of the ballots that differ look the same here. */
-export function alikeShown({ seen: { ballots: { alike } } }) {
-    return alike === 0 ? [] : [element('p', {}, say('seen.alike', { count: alike }))];
 }
 
 /** What the ballots of the page leave out, and a voter may see. */
