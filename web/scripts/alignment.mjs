@@ -25,21 +25,27 @@ export function aligned(left, right) {
     return rows;
 }
 
+/** How many entries of two lists are alike at their beginnings, and at their ends. */
+export function alikeEnds(left, right, isAlike) {
+    const least = Math.min(left.length, right.length);
+    let start = 0;
+    while (start < least && isAlike(left[start], right[start])) {
+        start++;
+    }
+    let end = 0;
+    while (end < least - start && isAlike(left.at(-1 - end), right.at(-1 - end))) {
+        end++;
+    }
+    return { start, end };
+}
+
 function alike(one, other) {
     return one.like === other.like;
 }
 
 // The places of lines that are alike, in order: those at both ends, and between them those of a longest common subsequence.
 function placesInCommon(left, right) {
-    const least = Math.min(left.length, right.length);
-    let start = 0;
-    while (start < least && alike(left[start], right[start])) {
-        start++;
-    }
-    let end = 0;
-    while (end < least - start && alike(left.at(-1 - end), right.at(-1 - end))) {
-        end++;
-    }
+    const { start, end } = alikeEnds(left, right, alike);
     const run = (length, one, other) => Array.from({ length }, (_, at) => [one + at, other + at]);
     const between = longestCommon(left.slice(start, left.length - end), right.slice(start, right.length - end));
     return [...run(start, 0, 0), ...between.map(([one, other]) => [start + one, start + other]), ...run(end, left.length - end, right.length - end)];

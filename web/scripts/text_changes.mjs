@@ -1,5 +1,5 @@
 // Two texts word by word, and a word that was replaced character by character: what differs is told apart from what is equal.
-import { aligned } from './alignment.mjs';
+import { aligned, alikeEnds } from './alignment.mjs';
 
 /** The most characters of texts that are compared; longer ones differ as a whole. */
 const MOST_CHARACTERS = 20_000;
@@ -10,15 +10,20 @@ const MOST_CHARACTERS = 20_000;
  */
 
 /**
- * The pieces of two texts.
+ * The pieces of two texts. Of a word in place of another one, what both begin with and end with is equal.
  * @returns {{left: Piece[], right: Piece[]}}
  */
 export function piecesOfBoth(left, right) {
     const sides = { left: [], right: [] };
-    for (const row of rowsOfWords(left, right)) {
-        addRow(sides, row);
+    for (const { left: one, right: other, same } of rowsOfWords(left, right)) {
+        const [ones, others] = [one, other].map((word) => charactersOf(word?.text ?? ''));
+        const { start, end } = same ? { start: ones.length, end: 0 } : alikeEnds(ones, others, (character, another) => character === another);
+        for (const [pieces, characters] of [[sides.left, ones], [sides.right, others]]) {
+            const cuts = [0, start, characters.length - end, characters.length];
+            [false, true, false].forEach((changed, at) => addPiece(pieces, characters.slice(cuts[at], cuts[at + 1]).join(''), changed));
+        }
     }
-    return { left: joined(sides.left), right: joined(sides.right) };
+    return sides;
 }
 
 /**
@@ -63,49 +68,15 @@ function runsOf(rows) {
     return runs;
 }
 
-function addRow(sides, { left, right, same }) {
-    if (left !== null && right !== null && !same) {
-        addWord(sides, left.text, right.text);
-        return;
-    }
-    Object.entries({ left, right }).filter(([, word]) => word !== null)
-        .forEach(([side, word]) => sides[side].push({ text: word.text, changed: !same }));
-}
-
-// A word in place of another one: what both begin with and end with is equal.
-function addWord(sides, left, right) {
-    const [ones, others] = [left, right].map(charactersOf);
-    const least = Math.min(ones.length, others.length);
-    let start = 0;
-    while (start < least && ones[start] === others[start]) {
-        start++;
-    }
-    let end = 0;
-    while (end < least - start && ones[ones.length - 1 - end] === others[others.length - 1 - end]) {
-        end++;
-    }
-    for (const [side, characters] of [['left', ones], ['right', others]]) {
-        const cuts = [0, start, characters.length - end, characters.length];
-        [false, true, false].forEach((changed, index) => sides[side].push({ text: characters.slice(cuts[index], cuts[index + 1]).join(''), changed }));
-    }
-}
-
 // Each character with the marks on it.
 function charactersOf(text) {
     return text.match(/\P{M}?\p{M}*/gu).filter((character) => character !== '');
 }
 
-function joined(pieces) {
-    const made = [];
-    for (const { text, changed } of pieces) {
-        if (text === '') {
-            continue;
-        }
-        if (made.at(-1)?.changed === changed) {
-            made.at(-1).text += text;
-        } else {
-            made.push({ text, changed });
-        }
+function addPiece(pieces, text, changed) {
+    if (pieces.at(-1)?.changed === changed) {
+        pieces.at(-1).text += text;
+    } else if (text !== '') {
+        pieces.push({ text, changed });
     }
-    return made;
 }
