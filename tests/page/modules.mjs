@@ -92,13 +92,13 @@ function tryPair(name, [left, right], prefer) {
     }
     const { differences } = erd.differences(left, right, { prefer, mostDifferences: null });
     equal(`${name}: the first difference`, differences[0]?.line ?? null, difference?.line ?? null);
-    const names = [left, right].map((bytes) => new Meaning(readExactly(erd.canonical(bytes, { prefer }).bytes), prefer).names);
+    const called = [left, right].map((bytes) => new Meaning(readExactly(erd.canonical(bytes, { prefer }).bytes), prefer).called);
     const styles = outcome === 'same' ? [] : erd.toldOfBallots('erd_ballot_differences', [left, right], { prefer });
     const below = new Map(styles.map((style) => [String(style.key), style.below]));
     for (const entry of differences) {
-        const { rows, there, classes } = rowsOfDifference(entry, names);
+        const { rows, there, classes } = rowsOfDifference(entry, called);
         const isShown = entry.how !== 'member' ? classes[0] !== classes[1]
-            : rows === undefined ? insideOf(entry, names, (key) => below.get(String(key)) ?? '') !== undefined
+            : rows === undefined ? insideOf(entry, called, (key) => below.get(String(key)) ?? '') !== undefined
             : rows.some((row) => row.same === false) || there[0] !== there[1];
         equal(`${name}: both values of ${entry.line}`, isShown, true);
     }
@@ -193,7 +193,7 @@ const CANDIDATES = 'ElectionResults.CandidateSelection';
 const K12 = ['local-level', '', 'K-12'];
 const inTwo = [county, county.replaceAll('Ingrith', 'Ingrid')].map(meaningOf);
 const NO_NAMES = [() => undefined, () => undefined];
-const ofBoth = inTwo.map(({ names: some }) => some);
+const ofBoth = inTwo.map(({ called }) => called);
 const namesOf = (some, ...selections) => insideOf({ ...ofContest, selections }, some).entries.map(({ name }) => name);
 const ofCandidates = (how, keys, isWriteIn, order = null, identifier = null) => ({ how, name: [CANDIDATES, keys, isWriteIn, order, null, identifier] });
 equal('the name of a selection, from its own side', namesOf(ofBoth, ...['only left', 'only right', 'member'].map((how) => ofCandidates(how, [K12], false))),

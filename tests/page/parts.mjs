@@ -139,8 +139,8 @@ function report(change = () => {}) {
 }
 
 const meaning = report();
-const { names } = meaning;
-const textsOf = (name, value) => linesOf(name, value, names).map(({ text }) => text);
+const { called } = meaning;
+const textsOf = (name, value) => linesOf(name, value, called).map(({ text }) => text);
 const K = (code) => ['local-level', '', code];
 const code = { '@type': 'ElectionResults.ExternalIdentifier', Type: 'other', OtherType: 'ward', Value: '7' };
 const VALUES = {
@@ -164,7 +164,7 @@ const VALUES = {
 };
 Object.entries(VALUES).forEach(([what, [name, value, wanted]]) => equal(`lines of ${what}`, textsOf(name, value), wanted));
 equal('lines of one key are alike, whatever the object is called', [report(), report((made) => { made.Party[0].Name = 'Azure'; })]
-    .map((one) => linesOf('PartyId', K('P1'), one.names)[0].like).map((like, _at, [first]) => like === first), [true, true]);
+    .map((one) => linesOf('PartyId', K('P1'), one.called)[0].like).map((like, _at, [first]) => like === first), [true, true]);
 equal('the title of a person', meaning.thing('person', K('N1')).title, 'Ann Ash');
 
 const shown = ({ mark, lines, selections = [] }) => [mark, lines.map(({ role, texts }) => [role, ...texts.map(({ lang, pieces }) => lang
@@ -257,7 +257,7 @@ equal('much that differs on a ballot', belowOf(lengthy).map(([below, all]) => [b
 
 // ---- differences of the proved list
 
-const both = [names, names];
+const both = [called, called];
 const of = (member, left, right, more = {}) => ({ part: 'contest', key: K('C1'), how: 'member', member, ...more,
     values: { ...(left === undefined ? {} : { left }), ...(right === undefined ? {} : { right }) } });
 const rowsShown = (difference) => rowsOfDifference(difference, both).rows.map(({ left, right, same, equal: count }) => (
@@ -293,6 +293,8 @@ equal('what differs on a ballot, with its words', onBallot(BELOW), { part: 'styl
     { how: 'moved', name: 'Contest “Governor” (local-level C1)' },
     { how: 'added', name: 'Selection: Candidate “Ann” (local-level K1) + Candidate “Bo” (local-level K2)' },
     { how: 'moved', name: 'Selection: write-in (place 18446744073709551615, local-level W 1)' }] });
+equal('a line with a character that ends lines elsewhere', onBallot('  added contest ["local-level","","a\u2028b"]\n').entries,
+    [{ how: 'added', name: 'local-level a\u2028b' }]);
 equal('a ballot whose lines are the same', onBallot(''), { part: 'style', count: 0, entries: [] });
 equal('a ballot of which nothing is known', onBallot(null) ?? 'none', 'none');
 const lengthyBallot = onBallot('  changed units\n'.repeat(101));

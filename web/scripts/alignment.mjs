@@ -10,72 +10,56 @@ const MOST_PAIRS = 1_000_000;
  * @returns {{left: Line | null, right: Line | null, same: boolean}[]}
  */
 export function aligned(left, right) {
-    let start = 0;
-    while (start < left.length && start < right.length && alike(left[start], right[start])) {
-        start++;
+    const rows = [];
+    let next = [0, 0];
+    for (const [one, other] of [...placesInCommon(left, right), [left.length, right.length]]) {
+        const [ones, others] = [left.slice(next[0], one), right.slice(next[1], other)];
+        for (let at = 0; at < Math.max(ones.length, others.length); at++) {
+            rows.push({ left: ones[at] ?? null, right: others[at] ?? null, same: false });
+        }
+        if (one < left.length) {
+            rows.push({ left: left[one], right: right[other], same: true });
+        }
+        next = [one + 1, other + 1];
     }
-    let leftEnd = left.length;
-    let rightEnd = right.length;
-    while (leftEnd > start && rightEnd > start && alike(left[leftEnd - 1], right[rightEnd - 1])) {
-        leftEnd--;
-        rightEnd--;
-    }
-    return [
-        ...left.slice(0, start).map((line, index) => sameRow(line, right[index])),
-        ...changed(left.slice(start, leftEnd), right.slice(start, rightEnd)),
-        ...left.slice(leftEnd).map((line, index) => sameRow(line, right[rightEnd + index])),
-    ];
+    return rows;
 }
 
 function alike(one, other) {
     return one.like === other.like;
 }
 
-function sameRow(left, right) {
-    return { left, right, same: true };
-}
-
-function changed(left, right) {
-    if (left.length * right.length > MOST_PAIRS) {
-        return rowsOfRun(left, right);
+// The places of lines that are alike, in order: those at both ends, and between them those of a longest common subsequence.
+function placesInCommon(left, right) {
+    const least = Math.min(left.length, right.length);
+    let start = 0;
+    while (start < least && alike(left[start], right[start])) {
+        start++;
     }
-    const rows = [];
-    let run = { left: [], right: [] };
-    for (const [one, other] of pairsOf(left, right)) {
-        if (one !== null && other !== null) {
-            rows.push(...rowsOfRun(run.left, run.right), sameRow(one, other));
-            run = { left: [], right: [] };
-        } else if (one !== null) {
-            run.left.push(one);
-        } else {
-            run.right.push(other);
-        }
+    let end = 0;
+    while (end < least - start && alike(left.at(-1 - end), right.at(-1 - end))) {
+        end++;
     }
-    return [...rows, ...rowsOfRun(run.left, run.right)];
+    const run = (length, one, other) => Array.from({ length }, (_, at) => [one + at, other + at]);
+    const between = longestCommon(left.slice(start, left.length - end), right.slice(start, right.length - end));
+    return [...run(start, 0, 0), ...between.map(([one, other]) => [start + one, start + other]), ...run(end, left.length - end, right.length - end)];
 }
 
-// Lines that differ, in pairs.
-function rowsOfRun(left, right) {
-    return Array.from({ length: Math.max(left.length, right.length) },
-        (_, index) => ({ left: left[index] ?? null, right: right[index] ?? null, same: false }));
-}
-
-// The lines in order, each with its equal on the other side where both are in a longest common subsequence.
-function* pairsOf(left, right) {
-    const longest = lengthsOf(left, right);
+// The places of a longest common subsequence; none if the lists are too long.
+function longestCommon(left, right) {
     const width = right.length + 1;
-    let one = 0;
-    let other = 0;
-    while (one < left.length || other < right.length) {
-        if (one < left.length && other < right.length && alike(left[one], right[other])) {
-            yield [left[one++], right[other++]];
-        } else if (other === right.length || (one < left.length
-            && longest[(one + 1) * width + other] >= longest[one * width + other + 1])) {
-            yield [left[one++], null];
+    const places = [];
+    const longest = left.length * right.length > MOST_PAIRS ? null : lengthsOf(left, right);
+    for (let one = 0, other = 0; longest !== null && one < left.length && other < right.length;) {
+        if (alike(left[one], right[other])) {
+            places.push([one++, other++]);
+        } else if (longest[(one + 1) * width + other] >= longest[one * width + other + 1]) {
+            one++;
         } else {
-            yield [null, right[other++]];
+            other++;
         }
     }
+    return places;
 }
 
 // For each pair of positions the length of a longest common subsequence of what follows them.
@@ -85,8 +69,7 @@ function lengthsOf(left, right) {
     for (let one = left.length - 1; one >= 0; one--) {
         for (let other = right.length - 1; other >= 0; other--) {
             const at = one * width + other;
-            longest[at] = alike(left[one], right[other]) ? longest[at + width + 1] + 1
-                : Math.max(longest[at + width], longest[at + 1]);
+            longest[at] = alike(left[one], right[other]) ? longest[at + width + 1] + 1 : Math.max(longest[at + width], longest[at + 1]);
         }
     }
     return longest;

@@ -16,14 +16,14 @@ export class Differences {
      * @param {number} all how many differences there are
      * @param {(key: string[]) => string | null} [belowOf] the lines of the proved code that say what differs on the ballot of a style; null
      *     where they are not known
-     * @param {import('./values.mjs').Names[] | null} names null where the files are too large for the names of objects to be known
+     * @param {import('./values.mjs').Called[] | null} called null where the files are too large for the names of objects to be known
      * @param {Record<string, Record<string, string>>} [seen] what a voter sees
      */
-    constructor(entries, all, belowOf = () => null, names = null, seen = {}) {
+    constructor(entries, all, belowOf = () => null, called = null, seen = {}) {
         this.all = all;
         this.belowOf = belowOf;
-        this.names = names ?? UNNAMED;
-        this.hasWords = names !== null;
+        this.called = called ?? UNNAMED;
+        this.hasWords = called !== null;
         this.entries = entries.map((entry, number) => ({ ...entry, number, ...(this.hasWords ? { word: this.wordOf(seen, entry) } : {}) }));
         this.kinds = kindsOf(this.entries);
         // For a record, which has some: those that weigh most for a voter come first.
@@ -35,7 +35,7 @@ export class Differences {
         if (entry.member === 'ExternalIdentifier' && carriedIn(entry.values.left) !== carriedIn(entry.values.right)) {
             return 'in doubt';
         }
-        const [one] = this.names.map((ofSide) => ofSide(entry.part, entry.key)).filter((found) => found !== undefined);
+        const [one] = this.called.map((ofSide) => ofSide(entry.part, entry.key)).filter((found) => found !== undefined);
         return wordOf(seen, entry, one.className);
     }
 
@@ -63,8 +63,8 @@ export class Differences {
 
     shown(difference) {
         const { selections: _selections, values: _values, ...entry } = difference;
-        const inside = insideOf(difference, this.names, this.belowOf);
-        return { ...entry, ...rowsOfDifference(difference, this.names), ...(inside === undefined ? {} : { inside }) };
+        const inside = insideOf(difference, this.called, this.belowOf);
+        return { ...entry, ...rowsOfDifference(difference, this.called), ...(inside === undefined ? {} : { inside }) };
     }
 }
 

@@ -14,16 +14,16 @@ const VOTERS = { units: 'unit', parties: 'party' };
  * What the page shows of what differs inside: how many differences there are, and the first of them. Null if the proved list does not
  * tell them, since it is too long, and undefined for a difference in anything else.
  * @param {import('../../bindings/js/index.d.ts').Difference} difference
- * @param {import('./values.mjs').Names[]} names
+ * @param {import('./values.mjs').Called[]} called
  * @param {(key: string[]) => string | null} belowOf the lines that say what differs on the ballot of a style; null where they are not known
  */
-export function insideOf({ part, key, how, member, selections }, names, belowOf) {
+export function insideOf({ part, key, how, member, selections }, called, belowOf) {
     if (how === 'member' && part === 'contest' && member === 'ContestSelection') {
         return selections === undefined ? null : toldOf('contest', selections, (one) => ({ how: one.how, member: one.member,
-            name: selectionText(one.name, one.how === 'only right' ? [...names].reverse() : names) }));
+            name: selectionText(one.name, one.how === 'only right' ? [...called].reverse() : called) }));
     }
     const below = how === 'member' && part === 'style' && member === 'OrderedContent' ? belowOf(key) : null;
-    return below === null ? undefined : toldOf('style', below.split('\n').slice(0, -1), (line) => entryOfLine(line, names));
+    return below === null ? undefined : toldOf('style', below.split('\n').slice(0, -1), (line) => entryOfLine(line, called));
 }
 
 function toldOf(part, all, entryOf) {
@@ -31,20 +31,20 @@ function toldOf(part, all, entryOf) {
 }
 
 // A line of the proved code on a ballot: how something differs, what it is, and its key or its name.
-function entryOfLine(line, names) {
-    const [, how, what, text] = /^ *(\S+) (\S+) ?(.*)$/.exec(line);
+function entryOfLine(line, called) {
+    const [, how, what, text] = /^ *(\S+) (\S+) ?(.*)$/s.exec(line);
     if (Object.hasOwn(VOTERS, what)) {
         return { how, name: say(`parts.${VOTERS[what]}`) };
     }
     const key = exactValue(text);
-    return { how, name: what === 'selection' ? say('value.selection', { name: selectionText(key, names) }) : textOfObject(what, key, names) };
+    return { how, name: what === 'selection' ? say('value.selection', { name: selectionText(key, called) }) : textOfObject(what, key, called) };
 }
 
 // A selection by its candidates or parties, its label, or that it is for a write-in. What else tells it from others is in brackets.
-function selectionText([type, keys, isWriteIn, order, label, identifier], names) {
+function selectionText([type, keys, isWriteIn, order, label, identifier], called) {
     const part = type === 'ElectionResults.PartySelection' ? 'party' : 'candidate';
     const texts = [
-        ...keys.map((key) => textOfObject(part, key, names)),
+        ...keys.map((key) => textOfObject(part, key, called)),
         ...(label === null ? [] : plainLines(JSON.parse(label)).map(({ text }) => text)),
         ...(isWriteIn ? [say('value.writeIn')] : []),
     ];
@@ -54,7 +54,7 @@ function selectionText([type, keys, isWriteIn, order, label, identifier], names)
 }
 
 // An object as the first of the reports calls it that has it.
-function textOfObject(part, key, names) {
-    const ofReport = names.find((one) => one(part, key) !== undefined);
+function textOfObject(part, key, called) {
+    const ofReport = called.find((one) => one(part, key) !== undefined);
     return ofReport === undefined ? textOfTriple(key) : nameOf(part, key, ofReport).text;
 }

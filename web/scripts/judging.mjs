@@ -175,8 +175,8 @@ export class Judgement {
     differencesOf({ differences, allDifferences }, tell) {
         const forms = this.sides.map((side) => side.canonical(this.erd, this.prefer, tell));
         const isNamed = !forms.includes(null) && forms[0].length + forms[1].length <= MOST_WITH_NAMES;
-        const names = isNamed ? this.meanings(tell).map((meaning) => meaning.names) : null;
-        return new Differences(differences, allDifferences, (key) => this.belowOf(key), names, this.seen);
+        const called = isNamed ? this.meanings(tell).map((meaning) => meaning.called) : null;
+        return new Differences(differences, allDifferences, (key) => this.belowOf(key), called, this.seen);
     }
 
     // The proved list with its values, or its beginning; null if there is no memory for it.

@@ -15,23 +15,15 @@ const OUTSIDE_RECORD = {
 };
 const OUTSIDE_ANY_RECORD = new Set(['@type', '@id']);
 
-/** One object of a report: its record is made when it is asked for. */
-export class Thing {
-    constructor(part, key, object, election) {
-        this.part = part;
-        this.key = key;
-        this.object = object;
-        this.election = election;
-    }
-
-    get className() {
-        return this.object['@type'].replace('ElectionResults.', '');
-    }
-
-    /** What the object is called; null if it has no name. */
-    get title() {
-        return titleOf(this.object);
-    }
+// One object of a report, with its class and what it is called: null if it has no name.
+function thingOf(part, key, object, election) {
+    return {
+        part, key, object, election,
+        className: object['@type'].replace('ElectionResults.', ''),
+        get title() {
+            return titleOf(object);
+        },
+    };
 }
 
 /** The meaning of a report, from its canonical form under a preference. */
@@ -45,10 +37,10 @@ export class Meaning {
     }
 
     addReport(report) {
-        this.add(new Thing('report', null, report, null));
+        this.add(thingOf('report', null, report, null));
         this.addArrays(PARTS_OF_REPORT, report, null);
         for (const election of report.Election) {
-            this.add(new Thing('election', this.keyOf(election), election, null));
+            this.add(thingOf('election', this.keyOf(election), election, null));
             this.addArrays(PARTS_OF_ELECTION, election, this.keyOf(election));
         }
     }
@@ -56,7 +48,7 @@ export class Meaning {
     addArrays(parts, holder, election) {
         for (const [name, part] of Object.entries(parts)) {
             for (const object of holder[name] ?? []) {
-                this.add(new Thing(part, this.keyOf(object), object, election));
+                this.add(thingOf(part, this.keyOf(object), object, election));
             }
         }
     }
@@ -74,11 +66,8 @@ export class Meaning {
     }
 
     /** What objects are called, and their classes. */
-    get names() {
-        return (part, key) => {
-            const thing = this.thing(part, key);
-            return thing === undefined ? undefined : { title: thing.title, className: thing.className };
-        };
+    get called() {
+        return (part, key) => this.thing(part, key);
     }
 
     /** The key of an object: the least of its triples, or of those of the preferred type. Null without an identifier. */

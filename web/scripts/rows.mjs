@@ -13,19 +13,19 @@ const MOST_ROWS = 400;
  * What the page shows of a difference: what the object is called, its classes if it is an object that differs, and if it is a member the
  * rows of both values, which side has none, and which side's is empty. A member whose values the list does not tell has no rows.
  * @param {import('../../bindings/js/index.d.ts').Difference} difference
- * @param {import('./values.mjs').Names[]} names of the left report and of the right one
+ * @param {import('./values.mjs').Called[]} called of the left report and of the right one
  */
-export function rowsOfDifference({ part, key, how, member, values }, names) {
+export function rowsOfDifference({ part, key, how, member, values }, called) {
     const sides = [values?.left, values?.right];
     if (how !== 'member') {
         return { titles: sides.map((record) => (record === undefined ? null : titleOf(record.members))), rows: null,
             classes: sides.map((record) => record?.class.replace('ElectionResults.', '') ?? null) };
     }
-    const titles = names.map((ofSide) => ofSide(part, key)?.title ?? null);
+    const titles = called.map((ofSide) => ofSide(part, key)?.title ?? null);
     if (values === undefined) {
         return { titles };
     }
-    const lines = sides.map((value, at) => (value === undefined ? [] : linesOf(member, value, names[at])));
+    const lines = sides.map((value, at) => (value === undefined ? [] : linesOf(member, value, called[at])));
     return { titles, rows: shownRows(rowsOfMember(sides, lines)), there: sides.map((value) => value !== undefined),
         lacking: lines.map((some) => some.length === 0) };
 }

@@ -6,7 +6,7 @@ import { say } from './texts.mjs';
  * A line of a value. Lines are alike if their objects have equal keys, whatever the objects are called.
  * @typedef {{text: string, like: string}} Line
  * What a report calls an object, by its part and its key, and the class of the object; undefined where that is not known.
- * @typedef {(part: string, key: string[] | null) => {title: string | null, className: string} | undefined} Names
+ * @typedef {(part: string, key: string[] | null) => {title: string | null, className: string} | undefined} Called
  */
 
 // What the name of a reference ends with, before Id or Ids, and the part of the objects that it names.
@@ -15,14 +15,14 @@ const PARTS_BY_ENDING = { GpUnit: 'unit', District: 'unit', Scope: 'unit', Autho
 
 /**
  * The lines of a value, which is that of the member of this name.
- * @param {Names} names
+ * @param {Called} called
  * @returns {Line[]}
  */
-export function linesOf(name, value, names) {
+export function linesOf(name, value, called) {
     const [, ending] = REFERENCE.exec(name) ?? [];
     if (ending !== undefined) {
         const part = PARTS_BY_ENDING[ending] ?? ending.toLowerCase();
-        return (name.endsWith('s') ? value : [value]).map((key) => nameOf(part, key, names));
+        return (name.endsWith('s') ? value : [value]).map((key) => nameOf(part, key, called));
     }
     return name === 'ExternalIdentifier' ? value.flatMap(identifierLines) : plainLines(value);
 }
@@ -50,8 +50,8 @@ export function plainLines(value) {
 }
 
 /** What an object is called, with its key: Contest “Governor” (local-level C-1). */
-export function nameOf(part, key, names) {
-    const title = names(part, key)?.title ?? null;
+export function nameOf(part, key, called) {
+    const title = called(part, key)?.title ?? null;
     const kind = say(`part.${part}`);
     const shownKey = key === null ? [] : [say('value.inBrackets', { text: textOfTriple(key) })];
     return lineOf([kind, ...(title === null ? [] : [quoted(title)]), ...shownKey].join(' '), compactText([kind, key]));
