@@ -25,12 +25,12 @@ ENVELOPE = ['Format', 'GeneratedDate', 'Issuer', 'IssuerAbbreviation', 'VendorAp
             'ExternalIdentifier']
 LETTERS = '0123456789ABCDEFGHJKMNPQRSTVWXYZ'
 
-# What a voter sees: the words of the profile, the class of each part in the small ballot, and the list that its objects are in.
 # The members of which the proved code compares what ballots print. What is carried is compared too. The county of the small ballot is on no ballot.
 PRINTED = {'party': ('Name', 'Abbreviation', 'Slogan'), 'header': ('Name',),
            'person': ('FullName', 'FirstName', 'LastName', 'Title', 'Profession', 'PartyId'),
            'candidate': ('BallotName', 'PartyId', 'CampaignSlogan', 'IsIncumbent', 'IsTopTicket', 'PersonId', 'PreElectionStatus'),
            'contest': ('Name', 'VotesAllowed', 'VoteVariation', 'ContestSelection'), 'style': ('GpUnitIds', 'PartyIds', 'OrderedContent')}
+# The class of each part in the small ballot, and the list that its objects are in.
 CLASSES = {'report': 'ElectionReport', 'unit': 'ReportingUnit', 'party': 'Party', 'person': 'Person', 'office': 'Office', 'header': 'Header',
            'election': 'Election', 'candidate': 'Candidate', 'contest': 'CandidateContest', 'style': 'BallotStyle'}
 LISTS = {'unit': ('ElectionReport', 'GpUnit'), 'party': ('ElectionReport', 'Party'), 'person': ('ElectionReport', 'Person'),

@@ -35,7 +35,7 @@ const [, listing] = /differingBallots\(\) \{([^}]*\}[^}]*)\}/.exec(modules.get('
 equal('what the list of ballots that differ is', listing.includes("'erd_ballot_differences'"), true);
 // Nothing but the proved code says what ballots have on them, in which order, and what differs: no module that makes the answers reads the
 // content of a ballot out of a tree.
-const ANSWER = ['ballots.mjs', 'ballot_answers.mjs', 'ballot_changes.mjs', 'ballot_things.mjs', 'ballot_findings.mjs'];
+const ANSWER = ['ballots.mjs', 'ballot_answers.mjs', 'ballot_changes.mjs', 'ballot_findings.mjs'];
 ANSWER.forEach((name) => equal(`${name} reads no content of a ballot`, /OrderedCont|HeaderId|GpUnitIds|orderedChanges/.test(modules.get(name)), false));
 const CALLS = ['erd_ballot', 'erd_ballots', 'erd_ballots_beside'];
 equal('what the answers ask', [...new Set(modules.get('ballot_answers.mjs').match(/(?<=')erd_\w+(?=')/g))].sort(), CALLS);

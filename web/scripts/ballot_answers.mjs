@@ -2,7 +2,6 @@
 // from the proved code, and the words from the canonical form.
 import { orderOfKeys, textOfKey } from '../../bindings/js/lib/order.mjs';
 import { besideItself, BothBallots, mergedLines } from './ballot_changes.mjs';
-import { BallotThings } from './ballot_things.mjs';
 import { BallotWords } from './ballots.mjs';
 import { aroundOf, unitsAround } from './overview.mjs';
 import { hasWords } from './search.mjs';
@@ -34,7 +33,6 @@ export class BallotAnswers {
         this.words = meanings.map((meaning) => new BallotWords(meaning));
         this.told = meanings.map((_, side) => new Map(ask('erd_ballots', [side]).map((head) => [textOfKey(head.key), head])));
         this.differing = new Map(differing.map((one) => [textOfKey(one.key), one]));
-        this.things = new BallotThings(this.words);
         this.kept = new Map();
     }
 
@@ -60,7 +58,7 @@ export class BallotAnswers {
         fitting.forEach(({ mark }) => counts[mark === '' ? 'same' : 'differing']++);
         const chosen = group === 'all' ? fitting : fitting.filter(({ mark }) => (mark === '') === (group === 'same'));
         const entries = group === null ? [] : chosen.slice(from, from + count);
-        return { counts, entries: entries.map((head) => ({ ...head, ...linesBelow(this.differing.get(head.key)?.below ?? '') })) };
+        return { counts, entries: entries.map((head) => ({ ...head, ...linesBelow(this.belowOf(head.key)) })) };
     }
 
     /** How many ballot styles there are, and how many of them differ. */
@@ -102,11 +100,12 @@ export class BallotAnswers {
         return right === null ? 'removed' : left === null ? 'added' : 'changed';
     }
 
-    /** What differs on the ballots of a style of both files. */
-    thingsOn(key) {
-        return this.things.of(this.linesOf(key), this.differing.get(key).below);
+    /** What the proved code says differs on the ballot of a style. */
+    belowOf(key) {
+        return this.differing.get(key)?.below ?? '';
     }
 
+    /** The first lines of the ballot of a style in each file: of its election, and of whoever gets it. */
     linesOf(key) {
         return this.headsOf(key, (words, told) => words.lines(told));
     }

@@ -20,11 +20,7 @@ const MARKS = { both: '', removed: 'removed', added: 'added', 'moved here': 'mov
  * @returns {Told}
  */
 export function besideItself(lines) {
-    return { left: lines, right: lines, rows: lines.map(({ selections }, at) => ({ how: 'both', left: at, right: at, selections: onBoth(selections) })) };
-}
-
-function onBoth(names) {
-    return names.map((name) => ({ how: 'both', name }));
+    return { left: lines, right: lines, rows: lines.map((_, at) => ({ how: 'both', left: at, right: at, selections: [] })) };
 }
 
 /** Two ballots as one list, in the order of the right one. What was removed stands where it stood. */
@@ -34,7 +30,8 @@ export class BothBallots {
      * @param {import('./ballots.mjs').BallotWords[]} words of the left report and of the right one
      */
     constructor({ left, right, rows }, words) {
-        this.ballots = [left, right].map((lines, side) => numbered(lines, words[side]));
+        const [ones, others] = [left, right].map((lines, side) => numbered(lines, words[side]));
+        this.ballots = [ones, left === right ? ones : others];
         this.rows = rows.filter(isShown);
         this.hasOther = otherIdentifiers(this.rows, (row) => this.linesOf(row)[0].words().print);
     }
@@ -53,7 +50,7 @@ export class BothBallots {
         return {
             kind, depth, mark: one.depth === depth ? MARKS[row.how] : 'moved', from: one.number, to: other.number, renamed: this.hasOther(row),
             lines: mergedLines(first.lines, second.lines), lacking: second.lacking,
-            ...(kind === 'contest' ? selectionsOf(one === other ? onBoth(one.selections) : row.selections, one, other) : {}),
+            ...(kind === 'contest' ? selectionsOf(row, one, other) : {}),
         };
     }
 
@@ -87,9 +84,10 @@ export function otherIdentifiers(rows, printOf) {
     return (row) => others[row.how]?.has(printOf(row)) ?? false;
 }
 
-// The selections of a contest. Where only one ballot gives an order, they stand in that.
-function selectionsOf(told, one, other) {
-    const rows = told.filter(isShown).map(({ how, name }) => ({ how, name: compactText(name) }));
+// The selections of a contest: all of them where only one ballot has it. Where only one ballot gives an order, they stand in that.
+function selectionsOf({ selections: told }, one, other) {
+    const rows = (one === other ? one.selections.map((name) => ({ how: 'both', name })) : told.filter(isShown))
+        .map(({ how, name }) => ({ how, name: compactText(name) }));
     const ordered = one.listed === other.listed;
     const [left, right] = [one, other].map(({ selections }) => new Map(selections.map((name, at) => [compactText(name), at + 1])));
     if (!ordered) {
