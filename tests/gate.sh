@@ -46,6 +46,15 @@ tests() {
     [ -x "$tests" ]
 }
 
+# library: waits until the C library is made, which the part that tries it begins with
+library() {
+    local folder
+    folder=$(dirname "$(grep -lxF tests/library/c_library.sh "$results"/[0-9]*/command)")
+    until grep -aqE '^(ok|FAILED) +make library' "$folder/said" 2> /dev/null || [ -e "$folder/status" ] || [ -e "$folder/lost" ]; do
+        sleep 1
+    done
+}
+
 # libraries CRATE: the crates of the repository that it names
 libraries() {
     sed -n "s/#.*//; s/^$1\( [a-z]*\)*:\(.*\)/\2/p" crates.txt | grep -o 'erd_[a-z]*' | tr '\n' ' '
@@ -94,12 +103,18 @@ for crate in $(grep -l '^gate: ' $(grep -lx 'noticed by: a contract' tests/bodie
     [[ $tried == *" $crate "* ]] || missing "tests/bodies/lists/$crate.txt: the wrong bodies of the gate are not tried"
 done
 
-lane 'proved: erd_canon' 'tests/library/c_library.sh' 'python3 tests/library/lists_agree.py 500' 'tests/fuzz/fuzz.sh' 'program:' 'tests/forms/other_machines.sh' 'tests/forms/other_programs.sh' \
-    'tests/forms/language_examples.sh' 'tests/forms/javascript_package.sh' 'tests/forms/python_package.sh' 'python3 tests/prepare/steps.py' \
+lane 'proved: erd_canon' 'tests/library/c_library.sh' 'python3 tests/library/lists_agree.py 500'
+
+# The packages of both languages take the forms that are made first, and stand beside the programs for other machines. A release makes
+# the packages too, so it comes when they are done.
+lane 'program:' 'library:' 'tests/forms/other_machines.sh' 'tests/forms/other_programs.sh' 'ended: tests/fuzz/fuzz.sh' \
     'tests/forms/program_packages.sh' 'tests/forms/release_files.sh' 'tests/forms/installed_alone.sh'
+lane 'ended: tests/forms/other_machines.sh' 'ended: tests/library/c_library.sh' 'tests/forms/language_examples.sh' \
+    'tests/forms/javascript_package.sh' 'tests/forms/python_package.sh' 'python3 tests/prepare/steps.py' 'tests/fuzz/fuzz.sh'
 
 # The page needs erd.wasm alone, and the wrong lines need what the other forms have made, so they run beside the packages.
-lane 'ended: tests/forms/other_machines.sh' 'tests/page/page.sh' 'ended: tests/forms/other_programs.sh' 'tests/bodies/try_wrong.py --gate lines'
+lane 'ended: tests/forms/other_machines.sh' 'tests/page/page.sh' 'ended: tests/forms/other_programs.sh' \
+    'ended: tests/fuzz/fuzz.sh' 'tests/bodies/try_wrong.py --gate lines'
 
 lane 'program:' 'tests/program/command.sh' 'tests/pages/manual.sh' 'python3 tests/pages/examples.py' 'tests/program/contrib.sh' \
     'python3 tests/program/agrees_with_reference.py 500' 'python3 tests/program/same_meaning.py' \

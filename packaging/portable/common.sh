@@ -52,9 +52,9 @@ proved_module() {
 # from_c FILE MODULE FLAG ..: C as such a module, not optimised yet
 from_c() {
     llvm clang --target=x86_64-unknown-linux-gnu -std=c11 -O3 -Xclang -disable-llvm-passes -fPIC -fno-stack-protector \
-        -Wall -Wextra -ffile-prefix-map="$PWD=." "${headers[@]}" "${@:3}" -S -emit-llvm "$1" -o "$parts/c.ll"
-    without_machine "$parts/c.ll" "$2"
-    rm "$parts/c.ll"
+        -Wall -Wextra -ffile-prefix-map="$PWD=." "${headers[@]}" "${@:3}" -S -emit-llvm "$1" -o "$2.kept"
+    without_machine "$2.kept" "$2"
+    rm "$2.kept"
 }
 
 # proved_for MACHINE PROVED MODULE: proved code for another machine than x86-64. One instruction of x86-64 stands in it by name,

@@ -215,7 +215,8 @@ const abbreviated = report((made) => { made.Party[1].Abbreviation = 'G'; });
 const hidden = answersOf(meaning, abbreviated);
 const belowOf = (answers) => answers.styles({ words: '', group: 'all', from: 0, count: 9 }).entries.map(({ below, allBelow }) => [below, allBelow]);
 equal('what differs on a ballot', belowOf(hidden), [[['  changed contest ["local-level","","C1"]'], 1], [['  changed contest ["local-level","","C1"]'], 1]]);
-equal('a ballot that looks the same', [marksOf(hidden), hidden.seen()], [[['local-level S1', 'changed'], ['local-level S2', 'changed']], { all: 2, differing: 2, same: 0 }]);
+equal('a ballot that looks the same', [marksOf(hidden), hidden.seen()],
+    [[['local-level S1', 'changed'], ['local-level S2', 'changed']], { all: 2, differing: 2, same: 0 }]);
 const sentencesOf = (answers) => new BallotFindings(answers).some({ words: '', from: 0, count: 99 }).entries
     .map(({ subject, what, choice = '', count }) => [subject, what, choice, count].join(' '));
 equal('what looks the same is told', sentencesOf(hidden), ['For Governor changed  2']);
@@ -223,10 +224,11 @@ equal('what looks the same is told', sentencesOf(hidden), ['For Governor changed
 const otherCandidate = report((_made, election) => { election.Candidate[2].ExternalIdentifier = identified('K9'); });
 const recoded = answersOf(meaning, otherCandidate);
 equal('another identifier', sentencesOf(recoded), ['For Governor choice.renamed Cy 2']);
-equal('another identifier: its lines', recoded.ballot({ key: keyOf('S1') }).items[1].selections.filter(({ renamed: isOther }) => isOther).map(({ mark }) => mark),
-    ['removed', 'added']);
+const [, { selections: recodedOnes }] = recoded.ballot({ key: keyOf('S1') }).items;
+equal('another identifier: its lines', recodedOnes.filter(({ renamed: isOther }) => isOther).map(({ mark }) => mark), ['removed', 'added']);
 const otherContest = answersOf(meaning, report((_made, election) => { election.Contest[0].ExternalIdentifier = identified('C9'); }));
-equal('a contest with another identifier', [sentencesOf(otherContest), otherContest.ballot({ key: keyOf('S2') }).items.map(({ mark, renamed: isOther }) => [mark, isOther])],
+equal('a contest with another identifier', [sentencesOf(otherContest),
+    otherContest.ballot({ key: keyOf('S2') }).items.map(({ mark, renamed: isOther }) => [mark, isOther])],
     [['For Governor renamed  2'], [['removed', true], ['added', true]]]);
 const otherUnit = answersOf(meaning, report((made) => { made.GpUnit[1].Number = '7'; }));
 equal('a unit with another number', [sentencesOf(otherUnit), marksOf(otherUnit)], [[' changed  1'], [['local-level S1', 'changed'], ['local-level S2', '']]]);
@@ -236,9 +238,10 @@ equal('a style under another code', [marksOf(otherCode), otherCode.seen()],
 equal('the same ballots', marksOf(answersOf(meaning, report()), 'same'), [['local-level S1', ''], ['local-level S2', '']]);
 equal('a ballot with all the words', one.styles({ words: 'east WEST', group: 'all', from: 0, count: 9 }).entries.map(({ code }) => code), ['local-level S1']);
 // Units around those of a style are found, and what is not around them is not.
-const around = answersOf(report((made) => { made.GpUnit.push(typed('ReportingUnit', { '@id': 'gp3', ExternalIdentifier: identified('D3'), Name: 'Library', ComposingGpUnitIds: ['gp2'] }),
-    typed('ReportingUnit', { '@id': 'gp4', ExternalIdentifier: identified('R4'), Name: 'Region', ComposingGpUnitIds: ['gp3'] })); }));
-equal('a ballot by a district', ['library', 'r4', 'east'].map((words) => around.styles({ words, group: 'all', from: 0, count: 9 }).entries.map(({ code }) => code.slice(-2))),
+const district = (id, code, Name, inside) => typed('ReportingUnit', { '@id': id, ExternalIdentifier: identified(code), Name, ComposingGpUnitIds: [inside] });
+const around = answersOf(report((made) => { made.GpUnit.push(district('gp3', 'D3', 'Library', 'gp2'), district('gp4', 'R4', 'Region', 'gp3')); }));
+const found = (words) => around.styles({ words, group: 'all', from: 0, count: 9 }).entries.map(({ code }) => code.slice(-2));
+equal('a ballot by a district', ['library', 'r4', 'east'].map(found),
     [['S1'], ['S1'], ['S1', 'S2']]);
 // Ballots are kept for a while, and asked for once.
 const asked = [];

@@ -132,7 +132,8 @@ export class BallotAnswers {
     madeBallots(key) {
         const places = this.told.map((heads) => heads.get(key)?.at);
         const there = [...places.keys()].filter((side) => places[side] !== undefined);
-        const told = there.length === 2 ? this.ask('erd_ballots_beside', there, ...places) : besideItself(this.ask('erd_ballot', there, places[there[0]]).lines);
+        const told = there.length === 2 ? this.ask('erd_ballots_beside', there, ...places)
+            : besideItself(this.ask('erd_ballot', there, places[there[0]]).lines);
         return new BothBallots(told, [this.words[there[0]], this.words[there.at(-1)]]);
     }
 }

@@ -98,7 +98,10 @@ function selectionsOf({ selections: told }, one, other) {
     const hasOther = otherIdentifiers(rows, (row) => wordsOf(row)[0].print);
     const selections = rows.map((row) => {
         const [first, second] = wordsOf(row);
-        return { mark: MARKS[row.how], from: left.get(row.name), to: right.get(row.name), renamed: hasOther(row), lines: mergedLines(first.lines, second.lines) };
+        return {
+            mark: MARKS[row.how], from: left.get(row.name), to: right.get(row.name), renamed: hasOther(row),
+            lines: mergedLines(first.lines, second.lines),
+        };
     });
     return { selections, unlisted: !other.listed, ordered };
 }

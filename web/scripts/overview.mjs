@@ -55,7 +55,8 @@ function isPrecinct(unit) {
 
 function rowOf(meaning, unit, styles) {
     const codes = styles.map((style) => textOfTriple(style.key));
-    return { name: unit.title ?? '', code: textOfTriple(unit.key), count: styles.length, codes: codes.slice(0, MOST_STYLES), several: isRepeated(meaning, styles) };
+    return { name: unit.title ?? '', code: textOfTriple(unit.key), count: styles.length, codes: codes.slice(0, MOST_STYLES),
+        several: isRepeated(meaning, styles) };
 }
 
 // Two ballot styles of one election for the same parties: nothing says which one a voter gets.

@@ -93,8 +93,8 @@ abbrev pub IsBehindMark : (List ℕ → Outcome → List ℕ → List ℕ → Ty
 IsBehindMark Answers bytes outcome out err =
     (((rest : List ℕ) → bytes ≢ byte_order_mark ++ rest) × Answers bytes outcome out err) ⊎ AreMarkedTexts Answers bytes outcome out err
 
--- Preparing bytes with no mark before them by these steps ends with this outcome and writes these texts, one to its output and
--- one to its errors.
+-- Preparing bytes with no mark before them by these steps ends with this outcome and writes these texts. One is for its output,
+-- one for its errors.
 abbrev pub IsUnmarkedPrepared : Preference → List StepName → List ℕ → Outcome → List ℕ → List ℕ → Type 0
 IsUnmarkedPrepared π chosen bytes outcome out err =
     (IsNotJson bytes × AreNotJsonTexts outcome out err) ⊎ ((file : PreparedBytes) × IsPrepared bytes chosen Untold file × AreFileTexts π file outcome out err)

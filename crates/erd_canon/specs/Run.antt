@@ -89,13 +89,13 @@ pub record IsWholeRun (π : Preference) (limit : ℕ) (outcome : Outcome) (befor
   pub whole : IsReadWhole limit before after input
   pub written : IsAnswerWritten π input outcome out_before out_after err_before err_after
 
--- If the bytes of the reader are known: it was read to its end within the limit, and its bytes are an accepted report.
+-- What was read is an accepted report. If the bytes of the reader are known: it was read to its end within the limit.
 pub record IsAcceptedInput (π : Preference) (limit : ℕ) (before after : Option (List ℕ)) : Type 0 where
   pub input : List ℕ
   pub whole : IsReadWhole limit before after input
   pub accepted : IsSomeReport π input
 
--- If the bytes of the reader are known: it was read to its end within the limit, and its bytes are refused.
+-- What was read is refused. If the bytes of the reader are known: it was read to its end within the limit.
 pub record IsRefusedInput (π : Preference) (limit : ℕ) (before after : Option (List ℕ)) : Type 0 where
   pub input : List ℕ
   pub lines : List (List ℕ)
@@ -112,8 +112,8 @@ pub record IsWholeCompare (π : Preference) (limit : ℕ) (outcome : Outcome)
   pub right_whole : IsReadWhole limit right_before right_after right
   pub written : IsCompareWritten π left right outcome out_before out_after
 
--- If the bytes of the devices are known: the reader was read to its end within the limit, and a text that `IsCheckText`
--- allows for its bytes was written, and nothing else.
+-- What a check read and wrote. If the bytes of the devices are known: the reader was read to its end within the limit, and a text
+-- that `IsCheckText` allows for its bytes was written, and nothing else.
 pub record IsToldCheck (π : Preference) (limit : ℕ) (before after out_before out_after : Option (List ℕ)) : Type 0 where
   pub input : List ℕ
   pub text : List ℕ
@@ -121,8 +121,8 @@ pub record IsToldCheck (π : Preference) (limit : ℕ) (before after out_before 
   pub is_text : IsCheckText π input text
   pub wrote : Appends out_before out_after text
 
--- If the bytes of the devices are known: the reader was read to its end within the limit, and texts that `IsCanonicalOutput`
--- and `IsCanonicalErrors` allow for its bytes were written, and nothing else.
+-- What canonicalising read and wrote. If the bytes of the devices are known: the reader was read to its end within the limit, and
+-- texts that `IsCanonicalOutput` and `IsCanonicalErrors` allow for its bytes were written, and nothing else.
 pub record IsToldRun (π : Preference) (limit : ℕ) (before after out_before out_after err_before err_after : Option (List ℕ)) : Type 0 where
   pub input : List ℕ
   pub out_text : List ℕ
@@ -133,8 +133,8 @@ pub record IsToldRun (π : Preference) (limit : ℕ) (before after out_before ou
   pub wrote_out : Appends out_before out_after out_text
   pub wrote_err : Appends err_before err_after err_text
 
--- If the bytes of the devices are known: both readers were read to their ends within the limit, and a text that
--- `IsCompareText` allows for their bytes was written, and nothing else.
+-- What a comparison read and wrote. If the bytes of the devices are known: both readers were read to their ends within the limit,
+-- and a text that `IsCompareText` allows for their bytes was written, and nothing else.
 pub record IsToldCompare (π : Preference) (limit : ℕ) (left_before left_after right_before right_after out_before out_after : Option (List ℕ)) : Type 0 where
   pub left : List ℕ
   pub right : List ℕ

@@ -15,7 +15,12 @@ mod LineNodes
 mod PartnerLists
 mod Things
 mod RowLists
+mod RowPlaces
 mod RowLaws
+mod PartnerLaws
+mod QuietRows
+mod StyleLaws
+mod LinesTold
 mod NameLists
 mod MembersWritten
 mod BallotTrees

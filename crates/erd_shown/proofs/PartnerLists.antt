@@ -19,7 +19,7 @@ module _ {K : Type 0} (same : K → K → Bool) where
       at false most = omega (arith, most)
 
   -- one thing stands as often under either name
-  times_of_one : (laws : IsEquivalence same) (x q : K) → same x q ≡ true → (ys : List K) → times same x ys ≡ times same q ys
+  pub times_of_one : (laws : IsEquivalence same) (x q : K) → same x q ≡ true → (ys : List K) → times same x ys ≡ times same q ys
   times_of_one laws x q one [] = refl
   times_of_one laws x q one (y ∷ ys) = ap (λ b. cond b (suc (times same x ys)) (times same x ys)) (laws.congr x q y one) ∙ ap (λ n. cond (same q y) (suc n) n)
       (times_of_one laws x q one ys)

@@ -56,7 +56,8 @@ module _ {A : Type 0} where
       ap₂ (λ x xs. x ∷ xs) head (same_lists ls rs count (λ h low. each (suc h) (omega (arith, low))))
 
   -- no row tells a difference: the lists are equal
-  equal_lists : (left right : List (Option ℕ)) (rows : List Row) (ls rs : List A) → length left ≡ length ls → length right ≡ length rs → AreRows left right rows
+  pub equal_lists : (left right : List (Option ℕ)) (rows : List Row) (ls rs : List A) → length left ≡ length ls → length right ≡ length rs
+      → AreRows left right rows
       → AllByRecursion (TellsNoDifference ls rs) rows → ls ≡ rs
   equal_lists left right rows ls rs e f are none =
       let walked = paired ls rs rows 0 (length ls) (length rs) (are.left_lines ∙ ap (from 0) e) (are.right_lines ∙ ap (from 0) f) none in
@@ -66,7 +67,7 @@ occurrences_count : {K : Type 0} (same : K → K → Bool) (before xs : List K) 
 occurrences_count same before [] = refl
 occurrences_count same before (x ∷ xs) = ap suc (occurrences_count same (x ∷ before) xs)
 
-partners_count : {K : Type 0} (same : K → K → Bool) (xs ys : List K) → length (partners same xs ys) ≡ length xs
+pub partners_count : {K : Type 0} (same : K → K → Bool) (xs ys : List K) → length (partners same xs ys) ≡ length xs
 partners_count same xs ys = length-map (occurrences same xs) (place_from same 0 (occurrences same ys)) ∙ occurrences_count same [] xs
 
 lines_count : (π ρ : Preference) (t u d e : Data) → length (partners (eq_by_cmp thing_cmp) (things_of π t d) (things_of ρ u e))

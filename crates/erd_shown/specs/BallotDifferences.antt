@@ -53,7 +53,7 @@ is_reworded_at π t ρ u i = option_map_or (λ o. is_ballot_reworded π t ρ u o
 abbrev pub has_same_selections : Preference → Data → Preference → Data → ℕ → ℕ → Bool
 has_same_selections π t ρ u i j = bytes_eq (compact_text (selections_in π t i)) (compact_text (selections_in ρ u j))
 
--- True if the ballots of the styles at two positions are the same: their lines, their selections, and all words.
+-- True if two styles have the same ballot: its lines, their selections, and all words.
 abbrev pub is_same_ballot : Preference → Data → Preference → Data → ℕ → ℕ → Bool
 is_same_ballot π t ρ u i j = has_same_lines π t ρ u i j && (has_same_selections π t ρ u i j && not (is_reworded_at π t ρ u i))
 
@@ -78,7 +78,7 @@ told_of_row same ls rs (Added j) = told_of_right (slice_get rs j)
 told_of_row same ls rs (MovedAway i j) = None
 told_of_row same ls rs (MovedHere i j) = told_of_both same (slice_get ls i) (slice_get rs j)
 
--- True if two keys, of which either may be missing, are one.
+-- True if both are one key, or none.
 abbrev pub is_one_key : Option Key → Option Key → Bool
 is_one_key = eq_by_cmp (option_cmp key_cmp)
 

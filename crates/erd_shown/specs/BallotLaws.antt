@@ -1,9 +1,19 @@
--- The law of the rows of two ballots. All of this is the profile's own.
-use Rattle.std.specs.Prelude.{◌≡◌, List, map, slice_get}
+-- The laws of what is told of two ballots, and of the ballots of two reports. All of this is the profile's own.
+use Rattle.std.specs.Prelude.{ℕ, ◌≡◌, ◌⊎◌, ◌↔◌, List, [], Bool, false, Option, Some, None, Contains, map, slice_get}
 use Rattle.std.specs.List.{AllByRecursion}
 use Rattle.serde_json.specs.Data.{Data}
-use Rattle.erd_meaning.specs.Keys.{Preference}
-use Rattle.erd_shown.specs.Ballots.{line_data, lines_data, lines_of}
+use Rattle.serde_json.specs.Written.{compact_text}
+use Rattle.erd_tables.specs.declared.class.Family.TheVariants as family
+use Rattle.erd_meaning.specs.Keys.{Preference, key_of}
+use Rattle.erd_meaning.specs.Lookups.{rising_keys}
+use Rattle.erd_meaning.specs.declared.keys.key.Key.{Key}
+use Rattle.erd_shown.specs.BallotDifferences.{AreBallotDifferences, StyleFound, is_one_key, is_same_ballot, style_keys}
+use Rattle.erd_shown.specs.BallotDifferences.{told_of_both, told_of_left, told_of_right}
+use Rattle.erd_shown.specs.BallotLines.{AreDifferingLines}
+use Rattle.erd_shown.specs.BallotWords.{printed_selections}
+use Rattle.erd_shown.specs.Ballots.{ballot_data, line_data, lines_data, lines_of}
+use Rattle.erd_shown.specs.Partners.{partners}
+use Rattle.erd_shown.specs.Reworded.{is_ballot_reworded}
 use Rattle.erd_shown.specs.RowData.{AreLineRows}
 use Rattle.erd_shown.specs.declared.rows.Row.{Row}
 use Rattle.erd_shown.specs.declared.rows.Row.TheVariants.{Both}
@@ -20,3 +30,42 @@ BallotsTell =
     → AreLineRows π t d ρ u e rows
     → AllByRecursion (TellsNoDifference (map (line_data π t) (lines_of d)) (map (line_data ρ u) (lines_of e))) rows
     → lines_data π t d ≡ lines_data ρ u e
+
+-- The ballots of two styles are one: who gets them, their lines, what is printed of the selections, and all words.
+abbrev pub IsOneBallot : Preference → Data → Data → Preference → Data → Data → Type 0
+IsOneBallot π t d ρ u e =
+    (ballot_data π t d ≡ ballot_data ρ u e)
+    × (compact_text (printed_selections π t d) ≡ compact_text (printed_selections ρ u e))
+    × (is_ballot_reworded π t ρ u d ≡ false)
+
+-- The ballots of two styles with one key are one if no line says that they differ. So a style whose ballots are not the same
+-- has a line below it.
+abbrev pub LinesTell : Type 0
+LinesTell =
+    (π ρ : Preference) (t u d e : Data) → key_of π d ≡ key_of ρ e → AreDifferingLines π t d ρ u e [] → IsOneBallot π t d ρ u e
+
+-- ---- the ballots of two reports
+
+-- For each style of the first list, where the style with its key stands in the second list, or none.
+abbrev pub style_partners : List (Option Key × ℕ) → List (Option Key × ℕ) → List (Option ℕ)
+style_partners ls rs = partners is_one_key (style_keys ls) (style_keys rs)
+
+-- The style is of the left report alone, of the right report alone, or of both, and its ballots are not the same.
+abbrev pub IsLeftAlone : List (Option Key × ℕ) → List (Option Key × ℕ) → StyleFound → Type 0
+IsLeftAlone ls rs s = (i : ℕ) × (slice_get (style_partners ls rs) i ≡ Some None) × (told_of_left (slice_get ls i) ≡ Some s)
+
+abbrev pub IsRightAlone : List (Option Key × ℕ) → List (Option Key × ℕ) → StyleFound → Type 0
+IsRightAlone ls rs s = (j : ℕ) × (slice_get (style_partners rs ls) j ≡ Some None) × (told_of_right (slice_get rs j) ≡ Some s)
+
+abbrev pub DiffersInBoth : (ℕ → ℕ → Bool) → List (Option Key × ℕ) → List (Option Key × ℕ) → StyleFound → Type 0
+DiffersInBoth same ls rs s =
+    (i : ℕ) × (j : ℕ) × (slice_get (style_partners ls rs) i ≡ Some (Some j)) × (told_of_both same (slice_get ls i) (slice_get rs j) ≡ Some s)
+
+abbrev pub IsDifferingStyle : (ℕ → ℕ → Bool) → List (Option Key × ℕ) → List (Option Key × ℕ) → StyleFound → Type 0
+IsDifferingStyle same ls rs s = IsLeftAlone ls rs s ⊎ (IsRightAlone ls rs s ⊎ DiffersInBoth same ls rs s)
+
+-- A style is told exactly if one report alone has it, or both have it and its ballots are not the same.
+abbrev pub StylesTell : Type 0
+StylesTell =
+    (π ρ : Preference) (t u : Data) (found : List StyleFound) → AreBallotDifferences π t ρ u found
+    → (s : StyleFound) → Contains found s ↔ IsDifferingStyle (is_same_ballot π t ρ u) (rising_keys π t family.Style) (rising_keys ρ u family.Style) s

@@ -94,7 +94,7 @@ selection_words π t d =
     then array_of (map (words_at_reference π t family.Selection) (listed_at d))
     else array_of (map (words_data π t family.Selection) (in_name_order π t (selections_named t (text_at (codes "ContestId") d))))
 
--- The same of each line of the ballot of a style.
+-- The same of each line of a ballot.
 abbrev pub printed_selections : Preference → Data → Data → Data
 printed_selections π t d = array_of (map (λ l. selection_words π t l.1) (lines_of d))
 

@@ -1,4 +1,4 @@
-ghost use Rattle.erd_shown.specs.BallotLaws.{BallotsTell};
+ghost use Rattle.erd_shown.specs.BallotLaws.{BallotsTell, LinesTell, StylesTell};
 ghost use Rattle.erd_shown.specs.Laws.{MembersTell, ObjectsTell};
 
 /// The law that the members with one name, of two objects of one class, are written alike if and only if they mean the same. The
@@ -17,4 +17,18 @@ pub fn objects_tell()
 /// these are equal. The function does nothing.
 pub fn ballots_tell()
     ensures law { BallotsTell }
+{}
+
+/// The law that the ballots of two styles with one key are one if no line says that they differ: the same voters get them, they
+/// have the same lines, and all words are the same. So a style whose ballots are not the same has a line below it. The function
+/// does nothing.
+pub fn lines_tell()
+    ensures law { LinesTell }
+{}
+
+/// The law that [`differing_ballots`](crate::ballot_differences::differing_ballots) returns exactly the styles that one report
+/// alone has, and those of both whose ballots are not the same. So reports without such a style have the same ballots, and a
+/// style whose ballots alone were changed is told alone. The function does nothing.
+pub fn styles_tell()
+    ensures law { StylesTell }
 {}

@@ -7,7 +7,7 @@ use crate::objects::contest_selections::write_selections;
 use crate::objects::due_members::{DueMember, DueValue};
 use crate::objects::members::MemberRule;
 use crate::objects::written_object::write_object;
-use crate::values::content::write_content;
+use crate::values::ordered_content::write_content;
 use crate::values::value_of_kind::{is_kept, write_of_kind};
 use crate::writer::Writer;
 use crate::writer::ids::{IdText, optional_id_text};

@@ -1,6 +1,6 @@
 use Rattle.erd_normal.proofs.Common.{◌≡◌, false, ◌++◌, drop, view, items_view, members_view, items_have_float, members_have_float, normal_nodes}
 use Rattle.erd_normal.proofs.Common.{normal_node_members, items_tokens, members_tokens}
-use Rattle.erd_normal.proofs.values.content.+content.Given as goal
+use Rattle.erd_normal.proofs.values.ordered_content.+content.Given as goal
 
 abbrev pub invariant-write_nodes-loop-item : goal.invariant-write_nodes-loop-item
 invariant-write_nodes-loop-item l =

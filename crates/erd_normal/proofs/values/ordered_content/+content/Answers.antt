@@ -5,7 +5,7 @@ use Rattle.erd_text.proofs.WholeValues.{whole_first, whole_rest}
 use Rattle.erd_normal.proofs.inside.Members.{node_value}
 use Rattle.erd_text.proofs.WrittenTokens.{then_rest}
 use Rattle.erd_normal.proofs.texts.DueTokens.{entries_from, kept_member, member_or_none}
-use Rattle.erd_normal.proofs.values.content.+content.Goals as goal
+use Rattle.erd_normal.proofs.values.ordered_content.+content.Goals as goal
 
 pub write_node_member-returns-in_ok-key : goal.write_node_member-returns-in_ok-key
 write_node_member-returns-in_ok-key t c =
