@@ -114,8 +114,8 @@ class BallotThings {
     }
 }
 
-// The lines, each with those of its selections.
-function linesIn(below) {
+/** The lines of the proved code, each with those of its selections. */
+export function linesIn(below) {
     const told = [];
     for (const line of below.split('\n').slice(0, -1)) {
         const [, how, kind, key] = LINE.exec(line);

@@ -47,15 +47,10 @@ export function sentence({ part, key, how, member, titles, classes }, names) {
 }
 
 export function object(part, titles, key) {
-    const keyText = textOfKeyIn({ key });
     const title = titles.find((text) => text !== null) ?? null;
     return element('strong', {}, say(`subject.${part}`),
         ...(title === null ? [] : [' ', saidWith('trail.title', { title: long(title, LONGEST_TITLE) })]),
-        ...(keyText === null ? [] : [' ', saidWith('difference.key', { key: long(keyText, LONGEST_TITLE) })]));
-}
-
-function textOfKeyIn({ key }) {
-    return key === null ? null : textOfTriple(key);
+        ...(key === null ? [] : [' ', saidWith('difference.key', { key: long(textOfTriple(key), LONGEST_TITLE) })]));
 }
 
 function code(text) {
@@ -96,7 +91,7 @@ export function insideSentence({ how, member, name }, names) {
 
 // What the object is called in each file, its identifier, and its class if the classes differ.
 function objectGroups({ how, titles, classes, key }) {
-    const keyText = textOfKeyIn({ key });
+    const keyText = key === null ? null : textOfTriple(key);
     const there = [how !== 'only right', how !== 'only left'];
     const groups = [['difference.name', titles], ['difference.identifier', there.map((is) => (is ? keyText : null))]];
     if (how === 'other class') {

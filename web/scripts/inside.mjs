@@ -1,6 +1,7 @@
 // What differs inside the selections of two contests, or on the ballots of two styles, with a name of each thing for a reader. What differs
 // comes from the proved code.
 import { exactValue } from '../../bindings/js/lib/exact.mjs';
+import { linesIn } from './ballot_findings.mjs';
 import { say } from './texts.mjs';
 import { nameOf, plainLines, textOfTriple } from './values.mjs';
 
@@ -23,21 +24,21 @@ export function insideOf({ part, key, how, member, selections }, called, belowOf
             name: selectionText(one.name, one.how === 'only right' ? [...called].reverse() : called) }));
     }
     const below = how === 'member' && part === 'style' && member === 'OrderedContent' ? belowOf(key) : null;
-    return below === null ? undefined : toldOf('style', below.split('\n').slice(0, -1), (line) => entryOfLine(line, called));
+    return below === null ? undefined
+        : toldOf('style', linesIn(below).flatMap((line) => [line, ...line.inside]), (line) => entryOfLine(line, called));
 }
 
 function toldOf(part, all, entryOf) {
     return { part, count: all.length, entries: all.slice(0, MOST_INSIDE).map(entryOf) };
 }
 
-// A line of the proved code on a ballot: how something differs, what it is, and its key or its name.
-function entryOfLine(line, called) {
-    const [, how, what, text] = /^ *(\S+) (\S+) ?(.*)$/s.exec(line);
-    if (Object.hasOwn(VOTERS, what)) {
-        return { how, name: say(`parts.${VOTERS[what]}`) };
+// A line of the proved code on a ballot: how something differs, what it is, and its key or its name as JSON.
+function entryOfLine({ how, kind, key }, called) {
+    if (Object.hasOwn(VOTERS, kind)) {
+        return { how, name: say(`parts.${VOTERS[kind]}`) };
     }
-    const key = exactValue(text);
-    return { how, name: what === 'selection' ? say('value.selection', { name: selectionText(key, called) }) : textOfObject(what, key, called) };
+    const named = exactValue(key);
+    return { how, name: kind === 'selection' ? say('value.selection', { name: selectionText(named, called) }) : textOfObject(kind, named, called) };
 }
 
 // A selection by its candidates or parties, its label, or that it is for a write-in. What else tells it from others is in brackets.
