@@ -147,6 +147,19 @@ equal('a changed name and number: on the ballots', found.map(({ what, role, left
     ['choice.words | name | Ingrith Sablewood | Ingrid Sablewood', 'words | votes | Vote for 1 | Vote for up to 2']);
 equal('a changed name and number: words find one', pair.someOnBallots({ words: 'ingrid', from: 0, count: 9 }, quiet).count, 1);
 
+// Each party of a file has another code of a type that comes first: the objects are matched by their usual type again.
+function withCodes(before) {
+    const report = JSON.parse(textOf(one));
+    const code = (Value) => ({ '@type': 'ElectionResults.ExternalIdentifier', Type: 'a-vendor', Value });
+    report.Party.forEach((party, at) => party.ExternalIdentifier.push(code(`${before}${at}`)));
+    return report;
+}
+const coded = judgementOf(['x', 'y'].map((before) => Buffer.from(JSON.stringify(withCodes(before)))));
+await coded.verdict(quiet);
+equal('another type under which more objects are matched', coded.betterType({ types: ['a-vendor', 'local-level'] }, quiet),
+    { type: 'local-level', fewer: 0, count: 2 * withCodes('x').Party.length });
+equal('no other type where all objects are matched', pair.betterType({ types: ['local-level'] }, () => { throw new Error('it is tried'); }), null);
+
 // What a file has, counted here by its arrays.
 const whole = judgementOf([one]);
 await whole.verdict(quiet);

@@ -38,6 +38,11 @@ function shortStep({ name, number, title }) {
     return { name: short(name), number, title: short(title) };
 }
 
+// How many objects only one file has, of these differences.
+function unmatchedIn(differences) {
+    return differences.filter(({ how }) => how === 'only left' || how === 'only right').length;
+}
+
 // Whether a list that was asked for is whole, or too long to be listed whole.
 function isEnough(found) {
     return found === null || !found.more || found.allDifferences > MOST_LISTED;
@@ -212,7 +217,7 @@ export class Judgement {
             if (side !== null) {
                 return null;
             }
-            count += differences.filter(({ how }) => how === 'only left' || how === 'only right').length;
+            count += unmatchedIn(differences);
         }
         return count;
     }
@@ -224,13 +229,15 @@ export class Judgement {
 
     /** The type of identifier under which the fewest objects stay unmatched, if they are fewer than now; null if there is none. */
     betterType({ types }, tell) {
-        if (!this.differencesKept(tell).hasWords) {
+        const { entries, all, hasWords } = this.differencesKept(tell);
+        const isWhole = entries.length === all;
+        const others = types.filter((type) => type !== this.prefer).slice(0, MOST_TYPES);
+        if (!hasWords || others.length === 0 || (isWhole && unmatchedIn(entries) === 0)) {
             return null;
         }
         tell({ stage: 'types' });
         const under = (type) => this.unlessNoMemory(() => this.unmatched(type));
-        const others = types.filter((type) => type !== this.prefer).slice(0, MOST_TYPES);
-        const count = others.length === 0 ? 0 : under(this.prefer);
+        const count = isWhole ? unmatchedIn(entries) : under(this.prefer);
         const better = others.map((type) => ({ type, fewer: under(type), count })).filter(({ fewer }) => fewer !== null && fewer < count);
         return better.sort((one, other) => one.fewer - other.fewer)[0] ?? null;
     }
