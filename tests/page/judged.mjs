@@ -147,6 +147,21 @@ equal('a changed name and number: on the ballots', found.map(({ what, role, left
     ['choice.words | name | Ingrith Sablewood | Ingrid Sablewood', 'words | votes | Vote for 1 | Vote for up to 2']);
 equal('a changed name and number: words find one', pair.someOnBallots({ words: 'ingrid', from: 0, count: 9 }, quiet).count, 1);
 
+// One vendor has codes of its own beside the others: without these, the files say the same. An object that has no other code keeps its own.
+const own = JSON.parse(textOf(one));
+const code = (Value) => ({ '@type': 'ElectionResults.ExternalIdentifier', Type: 'other', OtherType: 'vendor', Value });
+own.Party.forEach((party, at) => party.ExternalIdentifier.push(code(`P${at}`)));
+const alone = JSON.parse(JSON.stringify(own));
+alone.Header[0].ExternalIdentifier = [code('H')];
+// The header is another one then, and so is what each ballot that has it lists.
+const changes = 2 + own.Election[0].BallotStyle.filter((style) => JSON.stringify(style).includes(`"HeaderId":"${own.Header[0]['@id']}"`)).length;
+for (const [what, made, wanted] of [['other codes', own, [[['other vendor'], []], 0]], ['a code and no other', alone, [[['other vendor'], []], changes]]]) {
+    const view = judgementOf([Buffer.from(JSON.stringify(made)), two]);
+    await view.verdict(quiet);
+    const { types, count } = view.ownView({}, quiet);
+    equal(`without ${what}`, [types, count], wanted);
+}
+
 // What a file has, counted here by its arrays.
 const whole = judgementOf([one]);
 await whole.verdict(quiet);
