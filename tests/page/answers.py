@@ -110,6 +110,17 @@ class Answer:
         return hashlib.sha256(self.form).hexdigest()
 
 
+def kinds_in(report):
+    """The types of all identifiers of a report, each with its other type. The report's own identifiers are not compared."""
+    found, waiting = set(), [{name: value for name, value in report.items() if name != 'ExternalIdentifier'}]
+    while waiting:
+        value = waiting.pop()
+        for inner in value.values() if isinstance(value, dict) else value:
+            waiting += [inner] if isinstance(inner, (dict, list)) else []
+        found |= {(one['Type'], one.get('OtherType', '')) for one in value.get('ExternalIdentifier', [])} if isinstance(value, dict) else set()
+    return found
+
+
 def types_in(value):
     """The types of all identifiers below a value."""
     if isinstance(value, list):

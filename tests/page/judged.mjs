@@ -160,6 +160,21 @@ equal('another type under which more objects are matched', coded.betterType({ ty
     { type: 'local-level', fewer: 0, count: 2 * withCodes('x').Party.length });
 equal('no other type where all objects are matched', pair.betterType({ types: ['local-level'] }, () => { throw new Error('it is tried'); }), null);
 
+// One vendor has codes of its own beside the others: without these, the files say the same. An object that has no other code keeps its own.
+const own = JSON.parse(textOf(one));
+const code = (Value) => ({ '@type': 'ElectionResults.ExternalIdentifier', Type: 'other', OtherType: 'vendor', Value });
+own.Party.forEach((party, at) => party.ExternalIdentifier.push(code(`P${at}`)));
+const alone = JSON.parse(JSON.stringify(own));
+alone.Header[0].ExternalIdentifier = [code('H')];
+// The header is another one then, and so is what each ballot that has it lists.
+const changes = 2 + own.Election[0].BallotStyle.filter((style) => JSON.stringify(style).includes(`"HeaderId":"${own.Header[0]['@id']}"`)).length;
+for (const [what, made, wanted] of [['other codes', own, [[['other vendor'], []], 0]], ['a code and no other', alone, [[['other vendor'], []], changes]]]) {
+    const view = judgementOf([Buffer.from(JSON.stringify(made)), two]);
+    await view.verdict(quiet);
+    const { types, count } = view.ownView({}, quiet);
+    equal(`without ${what}`, [types, count], wanted);
+}
+
 // What a file has, counted here by its arrays.
 const whole = judgementOf([one]);
 await whole.verdict(quiet);

@@ -18,6 +18,7 @@ def run(session):
     after_election(session)
     seen(session)
     look_alikes(session)
+    own_view(session)
     many_selections(session)
     long_names(session)
     other_type(session)
@@ -214,3 +215,30 @@ def type_of_many(session):
     session.judged(*(written(session, f'{codes}.json', with_codes(codes)) for codes in ('x', 'y')))
     session.becomes('another type, of many: it is offered', lambda: session.text('.offer p'),
                     answers.say('offer.fewer', type='local-level', fewer=0, count=2 * MANY))
+
+
+def own_view(session):
+    """Identifiers of a type that only one file has are left out by a click: that is a view beside the verdict, and so it stands in the record."""
+    def made(vendor, name='Ann'):
+        report = small()
+        election = report['Election'][0]
+        election['Candidate'][0]['BallotName'] = name
+        for thing in (election['Candidate'][0], election['Contest'][0], report['GpUnit'][0]):
+            thing['ExternalIdentifier'].append({'@type': 'ElectionResults.ExternalIdentifier', 'Type': 'other', 'OtherType': vendor, 'Value': vendor + '7'})
+        return report
+
+    left = written(session, 'left.json', made('vendor-a'))
+    for name, report, wanted in (
+            ('nothing else differs', made('vendor-b'), answers.say('own.same', types='other vendor-a, other vendor-b')),
+            ('a name differs', made('vendor-b', 'Anne'), answers.say('own.different', types='other vendor-a, other vendor-b', count=1))):
+        session.judged(left, written(session, 'right.json', report))
+        session.becomes(f'own view: the types, {name}', lambda: session.texts('.own-offer li'), [
+            answers.say('own.types', name='left.json', types='other vendor-a'), answers.say('own.types', name='right.json', types='other vendor-b')])
+        session.click('#own-choose')
+        session.becomes(f'own view: {name}', lambda: session.text('.own-view h3'), wanted)
+        session.equal(f'own view: the verdict stays, {name}', session.text('#verdict'), answers.say('verdict.different'))
+        session.becomes(f'own view: the record, {name}', lambda: session.browser.script("""
+            return [...document.querySelectorAll('.record dt')].filter((one) => one.textContent === arguments[0]).map((one) => one.nextSibling.textContent)""",
+            answers.say('record.own')), [wanted])
+    session.judged(left, written(session, 'right.json', made('vendor-a', 'Anne')))
+    session.equal('own view: not offered for the same types', session.texts('.own-offer'), [])

@@ -198,6 +198,7 @@ class Result:
         if self.is_listed and self.has_names:
             found.append(self.seen()[0])
             found += self.on_ballots()
+            found += [say('own.heading')] if self.own_kinds() else []
         if self.compared == 'different':
             found.append(say('difference.first'))
             found += [say('difference.all', count=len(self.entries))] if len(self.entries) > 1 else []
@@ -216,6 +217,11 @@ class Result:
         sums = [it.sum for it in self.answers]
         found = [say('notice.sameBytes')] if len(sums) == 2 and sums[0] is not None and sums[0] == sums[1] else []
         return found + [say('notice.test', name=it.name) for it in self.answers if it.outcome == 'accepted' and json.loads(it.path.read_bytes()).get('IsTest')]
+
+    def own_kinds(self):
+        """The types of identifier that only one file has."""
+        left, right = (answers.kinds_in(json.loads(path.read_bytes())) for path in self.paths)
+        return left ^ right
 
     def on_ballots(self):
         """The heading of what differs on the ballots, which stands there if they differ."""

@@ -7,7 +7,7 @@ import { findingSentence } from '../../web/scripts/ballot_sentences.mjs';
 import { ballotShown } from '../../web/scripts/ballot_view.mjs';
 import { cardOf } from '../../web/scripts/card.mjs';
 import { firstDifference, insideSentence, useExplanations } from '../../web/scripts/comparison.mjs';
-import { differenceList, typeOffer } from '../../web/scripts/difference_list.mjs';
+import { differenceList, ownOffer, ownSentence, typeOffer } from '../../web/scripts/difference_list.mjs';
 import { FaultCards, where } from '../../web/scripts/faults.mjs';
 import { differencesFiled, faultsFiled } from '../../web/scripts/findings.mjs';
 import { convertedLines, convertedNotices, convertedSentence, savedName } from '../../web/scripts/from_xml/shown.mjs';
@@ -121,6 +121,7 @@ const LISTED = { count: 4, listed: 4, tallies: TALLIES, seen: {}, kinds: [{ coun
 // A client answers what it is asked, and nothing else.
 const answering = (answers) => ({ ask: async (kind, question) => answers[kind](question) });
 const lister = (all) => answering({ more: ({ from, count }) => ENTRIES.slice(from, Math.min(all, from + count)).map((_, at) => numbered(from + at)) });
+const own = (types, count) => ownSentence({ types, count });
 const LISTS = {
     'inside selections': [{ how: 'member', member: 'SequenceOrder', name: 'Ann' }, { how: 'only left', name: 'Ann' }, { how: 'only right', name: 'Ann' }]
         .map((one) => insideSentence(one, NAMES)),
@@ -134,6 +135,9 @@ const LISTS = {
         { ...DIFFERENCES['a ballot whose lines are the same'], number: 1 }], { count: 2, listed: 2 }, NAMES),
     'filed faults': faultsFiled(['/a: wrong kind', '/b: repeated'], 7, 'a.json'),
     'all faults are filed': faultsFiled(['/a: wrong kind'], 1, 'a.json'),
+    'the offer of an own view': ownOffer([['fips'], []], NAMES, () => {}),
+    'no offer': ownOffer([[], []], NAMES, () => {}),
+    'own views': [own([['fips'], ['x']], 0), own([['fips'], []], 3), own([[], ['x']], null)],
     'the offer of a type': typeOffer({ type: 'ocd-id', fewer: 1, count: 9 }, () => {}),
 };
 

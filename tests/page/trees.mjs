@@ -7,7 +7,7 @@ import { counts, equal, ROOT } from './counted.mjs';
 // The modules that take an object out of a tree, or are handed a tree or its objects.
 const READ_TREES = {
     'ballots.mjs': 'the words beside keys', 'ballot_answers.mjs': 'languages, and the units around others', 'judging.mjs': 'makes the trees',
-    'meaning.mjs': 'names of objects by key', 'overview.mjs': 'what one file has',
+    'meaning.mjs': 'names of objects by key', 'overview.mjs': 'what one file has', 'own_view.mjs': 'types of identifiers that one file has',
     'seen.mjs': 'the members that the ballots of one file show', 'side.mjs': 'reads the form',
 };
 // The modules that ask the proved code.

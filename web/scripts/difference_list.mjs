@@ -101,6 +101,25 @@ function talliesShown(tallies, names) {
 }
 
 /**
+ * The offer of a view without the identifiers that only one file has; null if there are none.
+ * @param {string[][]} types the types that only one file has, of each file
+ * @param {string[]} names
+ * @param {() => void} choose
+ */
+export function ownOffer(types, names, choose) {
+    const lines = types.map((some, index) => (some.length === 0 ? null : element('li', {}, saidWith('own.types', {
+        name: theirs(names[index]), types: theirs(some.join(', ')) })))).filter((line) => line !== null);
+    return lines.length === 0 ? null : element('section', { class: 'offer own-offer', 'aria-labelledby': 'own-offer' },
+        element('h3', { id: 'own-offer' }, say('own.heading')), element('ul', {}, ...lines), button(say('own.choose'), choose, { id: 'own-choose' }));
+}
+
+/** What the own view says, in a sentence. */
+export function ownSentence({ types, count }) {
+    const key = count === null ? 'own.refused' : count === 0 ? 'own.same' : 'own.different';
+    return saidWith(key, { types: theirs([...new Set(types.flat())].join(', ')) }, { count: count ?? 0 });
+}
+
+/**
  * The offer of a type of identifier under which fewer objects stay unmatched.
  * @param {{type: string, fewer: number, count: number}} better
  * @param {(type: string) => void} choose

@@ -8,6 +8,7 @@ import { excerptOf } from './excerpt.mjs';
 import { Meaning } from './meaning.mjs';
 import { foundPlaces } from './places.mjs';
 import { Overview } from './overview.mjs';
+import { ownTypes, typesTold, withoutTypes } from './own_view.mjs';
 import { Preparing } from './preparing.mjs';
 import { isNoMemory, Side } from './side.mjs';
 import { textOfKey } from '../../bindings/js/lib/order.mjs';
@@ -240,6 +241,24 @@ export class Judgement {
         const count = isWhole ? unmatchedIn(entries) : under(this.prefer);
         const better = others.map((type) => ({ type, fewer: under(type), count })).filter(({ fewer }) => fewer !== null && fewer < count);
         return better.sort((one, other) => one.fewer - other.fewer)[0] ?? null;
+    }
+
+    /** The types of identifier that only one file has, of each file; null where the files are too large for that. */
+    ownTypes(_question, tell) {
+        if (!this.differencesKept(tell)?.hasWords) {
+            return null;
+        }
+        this.keptTypes ??= ownTypes(this.meanings(tell).map(({ report }) => report));
+        return typesTold(this.keptTypes);
+    }
+
+    /** What the proved code says of copies without the identifiers of these types: null where it does not accept them. */
+    ownView(question, tell) {
+        const types = this.ownTypes(question, tell);
+        const copies = this.meanings(tell).map(({ report }, index) => withoutTypes(report, this.keptTypes[index]));
+        tell({ stage: 'comparing' });
+        const { side, allDifferences } = this.erd.differences(...copies, { prefer: this.prefer, mostDifferences: 1 });
+        return { types, count: side === null ? allDifferences : null };
     }
 
     // What the canonical forms say.

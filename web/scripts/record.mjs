@@ -1,6 +1,7 @@
 // The record of a judgement: what two offices read to each other, and what is printed and filed.
 import { button, element, long, save, saidWith, theirs } from './dom.mjs';
 import { ENVELOPE } from './envelope.mjs';
+import { ownSentence } from './difference_list.mjs';
 import { convertedRecorded, savedName } from './from_xml/shown.mjs';
 import { copyRecorded } from './prepare_copy.mjs';
 import { leftOutShown, partShown, seenSentence } from './seen_box.mjs';
@@ -25,6 +26,7 @@ export function recordOf(known, client) {
         element('h3', { id: 'record' }, say(names.length === 1 ? 'record.ofCheck' : 'record.ofComparison')),
         files.some((file) => file.canonical) ? element('p', { class: 'screen' }, say('record.phone')) : null,
         element('dl', {}, ...entry('record.verdict', element('strong', {}, known.verdict)),
+            ...(known.ownView ? entry('record.own', ownSentence(known.ownView)) : []),
             ...(known.listed?.seen ? entry('record.seen', element('strong', {}, seenSentence(known.listed))) : []), ...rows.flat(),
             ...entry('record.prefer', known.prefer === null ? say('prefer.none') : theirs(known.prefer)),
             ...entry('record.date', dateText(known.date)), ...entry('record.version', `erd ${known.version}`),

@@ -1,9 +1,10 @@
 // What the page shows of one judgement: the verdict as soon as it is there, and then all that follows from it.
+import { attempted } from './attempts.mjs';
 import { BallotList } from './ballot_list.mjs';
 import { BallotSentences } from './ballot_sentences.mjs';
 import { cardOf } from './card.mjs';
 import { firstDifference, useExplanations } from './comparison.mjs';
-import { differenceList, listBegun, typeOffer } from './difference_list.mjs';
+import { differenceList, listBegun, ownOffer, ownSentence, typeOffer } from './difference_list.mjs';
 import { button, element, saidWith, theirs } from './dom.mjs';
 import { convertedNotices } from './from_xml/shown.mjs';
 import { differencesFiled, faultsFiled, MOST_FILED } from './findings.mjs';
@@ -146,7 +147,29 @@ export class Result {
         const better = await this.client.ask('betterType', { types: this.types }, this.tell);
         if (this.isCurrent()) {
             this.put('offer', better === null ? null : typeOffer(better, this.prefers));
+            await this.offerOwnView();
         }
+    }
+
+    // A view without the identifiers that only one file has. It stands below the verdict, and in the record.
+    async offerOwnView() {
+        const types = await this.client.ask('ownTypes', {}, this.tell);
+        const offer = types === null || !this.isCurrent() ? null : ownOffer(types, this.names, () => attempted(this.parts.offer, () => this.showOwnView()));
+        if (offer !== null) {
+            this.parts.offer.append(offer);
+        }
+    }
+
+    async showOwnView() {
+        this.ownView = await this.client.ask('ownView', {}, this.tell);
+        if (!this.isCurrent()) {
+            return;
+        }
+        this.parts.offer.querySelector('.own-offer')?.remove();
+        this.parts.verdict.append(element('section', { class: 'notice own-view', 'aria-labelledby': 'own-view' },
+            element('h3', { id: 'own-view', tabindex: '-1' }, ownSentence(this.ownView)), element('p', {}, say('own.note'))));
+        document.getElementById('own-view').focus();
+        await this.showRecord();
     }
 
     // What stands right below the verdict, and the envelopes behind it.
@@ -171,6 +194,7 @@ export class Result {
             })),
             names: this.names, prefer: this.prefer,
             version: this.data.version, pageSum: this.data.pageSum, verdict: this.verdictShown.title, date: this.date, findings, listed: this.listed,
+            ownView: this.ownView,
             notices: [...this.parts.notices.querySelectorAll('h3')].map((heading) => heading.cloneNode(true).childNodes),
         }, this.client));
     }

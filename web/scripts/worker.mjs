@@ -13,8 +13,8 @@ let judgement = null;
 
 // What a judgement is asked. Each question waits until its files are judged, since a worker may begin anew after it was ended.
 const QUESTIONS = [
-    'begun', 'sums', 'list', 'more', 'betterType', 'overview', 'precincts', 'onBallots', 'someOnBallots', 'languages', 'styles', 'ballot',
-    'kinds', 'places', 'canonical', 'lines', 'firstLines', 'part', 'preparation', 'preparedCopy', 'preparedChanges',
+    'begun', 'sums', 'list', 'more', 'betterType', 'ownTypes', 'ownView', 'overview', 'precincts', 'onBallots', 'someOnBallots', 'languages', 'styles',
+    'ballot', 'kinds', 'places', 'canonical', 'lines', 'firstLines', 'part', 'preparation', 'preparedCopy', 'preparedChanges',
 ];
 
 const ANSWERS = {
