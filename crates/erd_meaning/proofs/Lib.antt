@@ -6,6 +6,7 @@ pub mod accepted
 pub mod finding
 pub mod orders
 pub mod meanings
+pub mod EmptyLists
 pub mod examples
 pub mod references
 pub mod salts
