@@ -76,7 +76,7 @@ pub use Rattle.erd_compare.specs.code.LeastNames.{MemberMap, record_of_class, Te
 pub use Rattle.erd_compare.specs.code.MemberPairs.{IsMapOf, DecideNames, IsPairOf}
 pub use Rattle.erd_compare.specs.code.NamesInStep.{members_left, names_left, names_past, AreMembersOf}
 pub use Rattle.erd_compare.specs.code.PlacedObjects.{IsPlaced, AreSelectionsAt, AreSelectionsIn}
-pub use Rattle.erd_compare.specs.code.PlainParts.{means_nothing, meant_value, plain_found, member_found}
+pub use Rattle.erd_compare.specs.code.PlainParts.{meant_value, plain_found, member_found}
 pub use Rattle.erd_compare.specs.code.RankedSides.{on_side, rank_with_id, list_of_ranks, rank_set, AreCommonByRank, IsRankSet}
 pub use Rattle.erd_compare.specs.code.SelectionMembers.{is_selections, if_filled, selections_meant}
 pub use Rattle.erd_compare.specs.code.SelectionsByName.{has_number, IsByNumber, numbered_map}
