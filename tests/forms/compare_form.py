@@ -22,7 +22,7 @@ sys.path.insert(0, str(ROOT / 'tests' / 'program'))
 from agrees_with_reference import EXAMPLES, cases  # noqa: E402
 
 MOST_SECONDS = 600
-STEPS = 'removed,filled-in,visible'
+STEPS = 'removed,filled-in,visible,view'
 
 
 def suite():

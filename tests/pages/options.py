@@ -5,7 +5,7 @@ import re
 ROOT = pathlib.Path(__file__).resolve().parents[2]
 COMMANDS = ROOT / 'crates' / 'erd_canon' / 'src' / 'commands'
 # The usual texts of a value, by its name.
-USUAL = {'TYPE': ['fips', 'local-level', 'national-level', 'ocd-id', 'other', 'state-level'], 'STEPS': ['removed', 'filled-in', 'visible']}
+USUAL = {'TYPE': ['fips', 'local-level', 'national-level', 'ocd-id', 'other', 'state-level'], 'STEPS': ['removed', 'filled-in', 'visible', 'view']}
 
 
 def help_texts():

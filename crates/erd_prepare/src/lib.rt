@@ -25,6 +25,7 @@ mod nulls;
 mod numbers;
 mod objects;
 mod origins;
+mod other_codes;
 mod party_lines;
 mod persons;
 mod pieces;
