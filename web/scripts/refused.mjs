@@ -16,15 +16,17 @@ export async function troublesOf(files, names, client, { fixes, chosen, takesCop
     return sections.flat();
 }
 
-// A report, accepted or refused.
-function canBePrepared({ outcome, other }) {
-    return outcome === 'accepted' || outcome === 'refused' && other === undefined;
+// A report, accepted or refused, or JSON behind a byte order mark.
+function canBePrepared(file) {
+    const { outcome, other, trouble } = file;
+    return outcome === 'accepted' || outcome === 'refused' && other === undefined
+        || outcome === 'notJson' && trouble.why === 'byteOrderMark' && whyNotConverted(file) === null;
 }
 
 async function sectionsOf(file, { index, name, client, fixes, preparing }) {
     if (file.outcome === 'notJson') {
         const why = whyNotConverted(file);
-        return [...(file.trouble.why === 'byteOrderMark' && why === null ? [preparing()] : []), notJson(file.trouble, why, { name, index, fix: fixes['not JSON'] })];
+        return [...(canBePrepared(file) ? [preparing()] : []), notJson(file.trouble, why, { name, index, fix: fixes['not JSON'] })];
     }
     if (file.outcome !== 'refused') {
         return [];
