@@ -167,13 +167,27 @@ def bounds():
 # With these sizes each report takes long enough to be measured. What a square took would be four times as long.
 SIZES = (400, 800)
 MOST_TIMES = 3
+# The least of so many measurements counts, and of more where other work on the machine may have disturbed them.
+LEAST_ROUNDS, MOST_ROUNDS = 3, 12
 
 
 def growth_of_steps():
     """No step takes much more than twice as long for a report twice as large."""
     for name, make in growth.REPORTS.items():
-        small, large = (min(seconds_for(json.dumps(make(size)).encode()) for _ in range(3)) for size in SIZES)
-        yield f'{name}: growth', True, large < MOST_TIMES * small or (small, large)
+        reports = [json.dumps(make(size)).encode() for size in SIZES]
+        rounds = []
+        while len(rounds) < LEAST_ROUNDS or (is_steep(rounds) and len(rounds) < MOST_ROUNDS):
+            rounds.append([seconds_for(data) for data in reports])
+        yield f'{name}: growth', True, not is_steep(rounds) or least_of(rounds)
+
+
+def least_of(rounds):
+    return [min(seconds) for seconds in zip(*rounds)]
+
+
+def is_steep(rounds):
+    small, large = least_of(rounds)
+    return large >= MOST_TIMES * small
 
 
 def seconds_for(data):
