@@ -51,7 +51,7 @@ pub use Rattle.erd_meaning.proofs.meanings.WholeMeanings.{ObjectsAgree, same_at_
 pub use Rattle.erd_meaning.proofs.meanings.WholeMeanings.{selection_with_name, SelectionsAgreeButOne, same_at_name, names_of_selections, same_selections}
 pub use Rattle.erd_meaning.proofs.meanings.WholeMeanings.{election_has_key, same_sole_election, same_meaning}
 pub use Rattle.erd_meaning.proofs.meanings.WholeRecords.{absent_plain, absent_member, no_election_id, other_than_election}
-pub use Rattle.erd_meaning.proofs.orders.DistinctEntries.{distinct_from_one_place, options_exact, equal_keys}
+pub use Rattle.erd_meaning.proofs.rising.DistinctEntries.{distinct_from_one_place, options_exact, equal_keys}
 pub use Rattle.erd_text.proofs.RisingOrders.{greater_turned, less_turned, all_rising, rising_strictly, stands_at_rank}
 pub use Rattle.erd_meaning.proofs.selections.PositionedKeys.{KeyPosition, positioned_made, positioned_keys, all_positioned, rising_positioned}
 pub use Rattle.erd_meaning.specs.Lookups.{rising_election_keys}
@@ -76,7 +76,7 @@ pub use Rattle.erd_compare.specs.code.LeastNames.{MemberMap, record_of_class, Te
 pub use Rattle.erd_compare.specs.code.MemberPairs.{IsMapOf, DecideNames, IsPairOf}
 pub use Rattle.erd_compare.specs.code.NamesInStep.{members_left, names_left, names_past, AreMembersOf}
 pub use Rattle.erd_compare.specs.code.PlacedObjects.{IsPlaced, AreSelectionsAt, AreSelectionsIn}
-pub use Rattle.erd_compare.specs.code.PlainParts.{means_nothing, meant_value, plain_found, member_found}
+pub use Rattle.erd_compare.specs.code.PlainParts.{meant_value, plain_found, member_found}
 pub use Rattle.erd_compare.specs.code.RankedSides.{on_side, rank_with_id, list_of_ranks, rank_set, AreCommonByRank, IsRankSet}
 pub use Rattle.erd_compare.specs.code.SelectionMembers.{is_selections, if_filled, selections_meant}
 pub use Rattle.erd_compare.specs.code.SelectionsByName.{has_number, IsByNumber, numbered_map}

@@ -6,3 +6,5 @@ pub mod Results
 pub mod NumberedKeys
 -- what is written of a number or of a text tells where it ends
 pub mod SaltedTexts
+-- worked examples
+mod Examples

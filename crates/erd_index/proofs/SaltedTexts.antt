@@ -1,13 +1,13 @@
 -- What is written of a number or of a text tells where it ends.
-use Rattle.std.proofs.Common.{◌≡◌, ◌<◌, ◌≤◌, ◌+◌, ◌-◌, ◌%◌, ◌^◌, ℕ, Bool, true, false, cond, nat_lt, List, [], ◌∷◌, ◌++◌, length, take, drop, replicate, fold}
-use Rattle.std.proofs.Common.{get_or, min, append-nil, refl, sym, ap, ◌∙◌, arith, inl, inr}
+use Rattle.std.proofs.Common.{◌≡◌, ◌<◌, ◌-◌, ◌%◌, ◌^◌, ℕ, Bool, true, false, cond, nat_lt, List, [], ◌∷◌, ◌++◌, length, take, drop, replicate, fold}
+use Rattle.std.proofs.Common.{get_or, min, append-nil, refl, sym, ap, ◌∙◌, arith}
 use Rattle.std.specs.Hash.{HashWrites, le_bytes, u64, usize}
 use Rattle.std.specs.Hash.DefaultHasher.{write}
 use Rattle.std.specs.declared.hash.DefaultHasher.{DefaultHasher}
 use Rattle.std.specs.Int.{w64, to_le_bytes, from_le_bytes}
 use Rattle.std.proofs.lemmas.Bool.Decides.{Decides-ltb}
 use Rattle.std.proofs.lemmas.Nat.{from_le_bytes-to_le_bytes_8}
-use Rattle.std.proofs.lemmas.List.{append_cancel_left, length-append, length-drop, length-replicate, length-take, take-append-drop}
+use Rattle.std.proofs.lemmas.List.{length-append, length-drop, length-replicate, length-take, take-append-drop}
 use Rattle.std.proofs.lemmas.Grind.{flat_map-append, fold-append}
 use Rattle.erd_index.specs.Salts.{bytes_in, first_word, long_length, short_length, text_writes, whole_part, whole_words}
 

@@ -4,8 +4,9 @@ pub mod selections
 pub mod refused
 pub mod accepted
 pub mod finding
-pub mod orders
+pub mod rising
 pub mod meanings
+pub mod EmptyLists
 pub mod examples
 pub mod references
 pub mod salts

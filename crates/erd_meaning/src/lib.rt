@@ -2,6 +2,7 @@
 #![tactic(auto)]
 
 pub mod keys;
+pub mod members;
 pub mod names;
 mod objects;
 mod report;

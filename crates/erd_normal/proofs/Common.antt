@@ -94,8 +94,8 @@ pub use Rattle.erd_meaning.proofs.examples.RecordExamples.{local_key, members_of
 pub use Rattle.erd_meaning.proofs.finding.OneObject.{at_low, with_part, one_id}
 pub use Rattle.erd_meaning.proofs.meanings.SelectionKinds.{kind_of_type, is_selections, selections_kind, selections_name, selections_family, class_role}
 pub use Rattle.erd_meaning.proofs.meanings.WholeMeanings.{same_meaning}
-pub use Rattle.erd_meaning.proofs.orders.DistinctEntries.{options_exact, equal_keys, equal_names, distinct_from_one_place}
-pub use Rattle.erd_meaning.proofs.orders.DistinctEntries.{distinct_map, distinct_one, unrepeated_distinct, unrepeated_by_cmp}
+pub use Rattle.erd_meaning.proofs.rising.DistinctEntries.{options_exact, equal_keys, equal_names, distinct_from_one_place}
+pub use Rattle.erd_meaning.proofs.rising.DistinctEntries.{distinct_map, distinct_one, unrepeated_distinct, unrepeated_by_cmp}
 pub use Rattle.erd_text.proofs.RisingOrders.{two_exchanged, reordered-In, reordered_flat, reordered_rising, whole-reordered, count-reordered}
 pub use Rattle.erd_text.proofs.RisingOrders.{all-reordered, along_permutation, reordered_kept, greater_turned, inserted_exchange, all_rising, NeverFalls}
 pub use Rattle.erd_text.proofs.RisingOrders.{rising_strictly, rising_never_falls, rank_map, rank_by_at, length-rising, In-rising, compact_cmp_total}
@@ -104,6 +104,7 @@ pub use Rattle.erd_meaning.specs.LaterFaults.{is_unresolved, is_of_other_family}
 pub use Rattle.erd_meaning.specs.Lookups.{rising_election_keys}
 pub use Rattle.erd_meaning.specs.Meaning.{JsonMap, JsonSet, translated, a_json_set, a_content, SelectionRecord, a_selection_map}
 pub use Rattle.erd_meaning.specs.Objects.{IsObject}
+pub use Rattle.erd_meaning.proofs.EmptyLists.{unless_by_test}
 pub use Rattle.erd_meaning.specs.Records.{key_set, class_of_node, is_header_class, contest_node, header_node, nodes_of, node_of, content_inside, unless_empty}
 pub use Rattle.erd_text.specs.StableOrder.{pairs_of, IsStablySorted}
 pub use Rattle.erd_text.specs.Tokens.{value_tokens, items_tokens, members_tokens}
@@ -125,7 +126,7 @@ pub use Rattle.erd_normal.specs.code.DueMembers.{due_value, due_list, IsBeforeAl
 pub use Rattle.erd_normal.specs.code.ElectionObjects.{in_order_of_keys, rising_objects, rising_elections, holding_election}
 pub use Rattle.erd_normal.specs.code.ElectionObjects.{objects_in_election, positions_in_election, list_seen}
 pub use Rattle.erd_normal.specs.code.NormalTree.{id_of_key, normal_id, normal_reference, reference_cmp, rank_of_name, id_of_selection, contest_with}
-pub use Rattle.erd_normal.specs.code.NormalTree.{selection_with, normal_selection_reference, unless_no_entry, array_of, normal_value}
+pub use Rattle.erd_normal.specs.code.NormalTree.{selection_with, normal_selection_reference, array_of, normal_value}
 pub use Rattle.erd_normal.specs.code.NormalTree.{normal_members, normal_object_with, normal_node_value, normal_content, normal_nodes, normal_node}
 pub use Rattle.erd_normal.specs.code.NormalTree.{normal_node_members, with_id, by_key, by_name, envelope_values, in_envelope}
 pub use Rattle.erd_normal.specs.code.Orders.{rank_named}

@@ -6,3 +6,4 @@ pub mod StableRising
 pub mod WholeValues
 pub mod WrittenTokens
 pub mod LabelTokens
+mod Examples  -- worked examples

@@ -5,7 +5,7 @@ use Rattle.erd_compare.proofs.Common.{ap, ◌∙◌, subst, inl, inr, fun_ext, D
 use Rattle.erd_compare.proofs.Common.{selection_record, selection_map, name_of, name_cmp, name_cmp_total, option_eq, find-Some, options_exact, SelectionRecord}
 use Rattle.erd_compare.proofs.Common.{number_of_name, number_of_selection, Decides, on_side, has_number, numbered_map, ComparedReport, Left, Right}
 use Rattle.erd_compare.proofs.same_ranks.NameNumbers.{IsNameOn, one_name}
-use Rattle.erd_meaning.proofs.orders.DistinctEntries.{equal_names}
+use Rattle.erd_meaning.proofs.rising.DistinctEntries.{equal_names}
 
 same_find : {A : Type 0} (p q : A → Bool) (xs : List A) → ((x : A) → In x xs → p x ≡ q x) → find p xs ≡ find q xs
 same_find p q [] same = refl

@@ -9,7 +9,7 @@ use Rattle.erd_compare.proofs.Common.{on_side, rank_with_id, list_of_ranks, rank
 use Rattle.std.proofs.lemmas.List.Kept.{Contains-dedup_nat, Contains-from_dedup, IsStrictlySortedBy-dedup}
 use Rattle.std.proofs.lemmas.List.Sorted.{list_any-IsPermutation}
 use Rattle.std.proofs.lemmas.Map.Views.{Contains-from_any}
-use Rattle.erd_meaning.proofs.orders.DistinctEntries.{set_unique}
+use Rattle.erd_meaning.proofs.rising.DistinctEntries.{set_unique}
 use Rattle.erd_compare.proofs.same_ranks.KeyRanks.{both_keys, one_rank, Stands, value_named, value_known}
 
 -- ---- the ranks of references

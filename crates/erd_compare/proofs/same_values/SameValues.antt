@@ -6,16 +6,16 @@ use Rattle.erd_compare.proofs.Common.{or_parts, or_from, nat_list_cmp_total, exa
 use Rattle.erd_compare.proofs.Common.{get, has_float, members_have_float, text_cmp, IsBeforeFirst, AreMembers, are_same_members, are_same_members_exact}
 use Rattle.erd_compare.proofs.Common.{members_unique, JsonMap, kind_of_member, Class, MemberKind, kind, if_carried, carried_members, Carried, is_carried_kind}
 use Rattle.erd_compare.proofs.Common.{takes_name, chosen_members, members_in, chosen_in, [], ◌∷◌, is_some, IfOk, codes, Result, bytes_eq, unwrap_or}
-use Rattle.erd_compare.proofs.Common.{IfOk-weaker, array, no_items, item, family_of_class, is_reference_name, kind_of_identity, class, has_keys, Preference}
-use Rattle.erd_compare.proofs.Common.{plain_value, kind_in_rows, kind_of_unlisted, unless_empty, Judged, NamesKeys, means_nothing, meant_value, plain_found}
+use Rattle.erd_compare.proofs.Common.{IfOk-weaker, array, no_items, family_of_class, is_reference_name, kind_of_identity, class, has_keys, Preference}
+use Rattle.erd_compare.proofs.Common.{plain_value, kind_in_rows, kind_of_unlisted, unless_empty, Judged, NamesKeys, meant_value, plain_found}
 use Rattle.erd_compare.proofs.Common.{slice_get, option_and_then, family_number, Family, role, key_of, key_of_family_object, FindsId, Placed, objects, owner}
 use Rattle.erd_compare.proofs.Common.{name_of, number_of_name, number_of_selection, rank_of_key, on_side, ComparedReport}
+use Rattle.std.specs.Prelude.{is_none}
 use Rattle.erd_check.specs.ValueSets.{StandsFor, values_in}
 use Rattle.erd_check.specs.declared.value_set.ValueSet.{ValueSet}
 use Rattle.erd_compare.proofs.whole_trees.WholeTrees.{AreWholeTrees, whole_tree-exact, whole_tree-itself, whole_trees-views, members_themselves}
 use Rattle.erd_compare.specs.declared.values.chosen_members.Choice.{Choice}
 use Rattle.erd_tables.specs.Rows.{Row, rows_of_class}
-use Rattle.erd_check.specs.Faults.{is_empty_array}
 use Rattle.erd_meaning.specs.Records.{is_in_envelope}
 use Rattle.erd_meaning.proofs.finding.OneObject.{owner_elsewhere, owner_here, owner_nowhere}
 
@@ -268,13 +268,12 @@ member_keyed c name = keyed_from (kind_of_member c name) (listed_keyed name (row
 
 -- ---- a value that means something by itself means what its kind says
 
--- a value that is no empty array
-filled : {V : Type 0} (v : V) (d : Data) → is_empty_array d ≡ false → unless_empty v d ≡ Some v
+-- what is given of a value, if anything is
+filled : {V : Type 0} (v : V) (d : Data) → is_none (unless_empty v d) ≡ false → unless_empty v d ≡ Some v
 filled v (array no_items) e = cc
-filled v (array (item d ds)) e = refl
 filled v d e = refl
 
-plain_meant : (π : Preference) (t : Data) (k : MemberKind) (d : Data) → means_nothing k d ≡ false → plain_value π t k d ≡ Some (meant_value π t k d)
+plain_meant : (π : Preference) (t : Data) (k : MemberKind) (d : Data) → is_none (plain_value π t k d) ≡ false → plain_value π t k d ≡ Some (meant_value π t k d)
 plain_meant π t (kind.Many f) d e = filled _ d e
 plain_meant π t kind.Identifiers d e = filled _ d e
 plain_meant π t kind.Languages d e = filled _ d e
@@ -288,7 +287,8 @@ some-Decides answer a b h = (λ is. ap Some (h.0 is), λ same. let one : a ≡ b
 -- two members outside the envelope whose values mean something mean the same exactly if they do as values of their kind
 pub meant-Decide : {E : Type 0} (a b : Judged) (c : Class) (name : List ℕ) (k : MemberKind) (found other : Option Data) (d e : Data) (r : Result Bool E)
     → is_in_envelope c name ≡ false → k ≡ kind_of_member c name
-    → found ≡ Some d → other ≡ Some e → means_nothing k d ≡ false → means_nothing k e ≡ false
+    → found ≡ Some d → other ≡ Some e → is_none (plain_value a.prefer (view a.tree) k d) ≡ false
+    → is_none (plain_value b.prefer (view b.tree) k e) ≡ false
     → IfOk r (λ answer. Decides answer (meant_value a.prefer (view a.tree) k d) (meant_value b.prefer (view b.tree) k e))
     → IfOk r (λ answer. Decides answer (plain_found a.prefer (view a.tree) c name found) (plain_found b.prefer (view b.tree) c name other))
 meant-Decide a b c name k found other d e r out its_kind is_d is_e one two h =
@@ -297,8 +297,8 @@ meant-Decide a b c name k found other d e r out its_kind is_d is_e one two h =
     (λ answer is. decides_as refl (sym (means a found d is_d one)) (sym (means b other e is_e two))
     (some-Decides answer (meant_value a.prefer (view a.tree) k d) (meant_value b.prefer (view b.tree) k e) is)) h
   where
-    means : (a : Judged) (found : Option Data) (d : Data) → found ≡ Some d → means_nothing k d ≡ false → plain_found a.prefer (view a.tree) c name found
-        ≡ Some (meant_value a.prefer (view a.tree) k d)
+    means : (a : Judged) (found : Option Data) (d : Data) → found ≡ Some d → is_none (plain_value a.prefer (view a.tree) k d) ≡ false
+        → plain_found a.prefer (view a.tree) c name found ≡ Some (meant_value a.prefer (view a.tree) k d)
     means a found d is some = ap (plain_found a.prefer (view a.tree) c name) is ∙ rw out (rw (← its_kind) (plain_meant a.prefer (view a.tree) k d some))
 
 -- ---- what is found by an `@id` is the object that a reference names

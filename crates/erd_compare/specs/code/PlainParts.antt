@@ -1,31 +1,16 @@
 -- What a member means by itself, if it means anything.
-use Rattle.std.specs.Prelude.{ℕ, List, Bool, true, false, Option, None, option_and_then, if◌then◌else◌}
+use Rattle.std.specs.Prelude.{ℕ, List, Option, None, option_and_then, if◌then◌else◌}
 use Rattle.serde_json.specs.Data.{Data}
 use Rattle.serde_json.specs.Find.{as_str}
 use Rattle.erd_tables.specs.Table.{kind_of_member}
 use Rattle.erd_tables.specs.declared.class.Class.{Class}
 use Rattle.erd_tables.specs.declared.member.MemberKind.{MemberKind}
 use Rattle.erd_tables.specs.declared.member.MemberKind.TheVariants as kind
-use Rattle.erd_check.specs.Faults.{is_empty_array}
 use Rattle.erd_check.specs.Values.{entries_of}
 use Rattle.erd_meaning.specs.Keys.{Preference}
 use Rattle.erd_meaning.specs.Meaning.{MemberValue, PlainValue, a_json, a_label, a_json_set, a_key, a_key_set, a_content}
 use Rattle.erd_meaning.specs.Records.{content_of, is_in_envelope, json_set, key_set, label_of, member_value, plain_value}
 use Rattle.erd_meaning.specs.SelectionNames.{key_named, keys_named}
-
--- True if a value of this kind means nothing by itself: it is an empty set or list, or its kind has no meaning by itself.
-abbrev pub means_nothing : MemberKind → Data → Bool
-means_nothing kind.Word d = false
-means_nothing kind.Flag d = false
-means_nothing kind.Whole d = false
-means_nothing kind.Carried d = false
-means_nothing kind.Label d = false
-means_nothing (kind.One f) d = false
-means_nothing (kind.Many f) d = is_empty_array d
-means_nothing kind.Identifiers d = is_empty_array d
-means_nothing kind.Languages d = is_empty_array d
-means_nothing kind.Content d = is_empty_array d
-means_nothing k d = true
 
 -- What a value of this kind means, where it means anything by itself.
 abbrev pub meant_value : Preference → Data → MemberKind → Data → PlainValue

@@ -2,7 +2,7 @@ ghost use Rattle.std.specs.Prelude.{◌≡◌, option_map, IfOk};
 ghost use Rattle.erd_compare.specs.Words.{view, entries_of, is_in_envelope, json_set};
 ghost use Rattle.erd_compare.specs.code.Comparing.{Decides, IsWholeTree, NamesKeys};
 ghost use Rattle.erd_compare.specs.code.MemberPairs.{IsWholePair};
-ghost use Rattle.erd_compare.specs.code.PlainParts.{means_nothing, meant_value, plain_found};
+ghost use Rattle.erd_compare.specs.code.PlainParts.{meant_value, plain_found};
 
 use crate::comparer::Comparer;
 use crate::objects::differing_names::MemberPair;
@@ -10,7 +10,8 @@ use crate::values::content::is_same_content;
 use crate::values::labels::is_same_label;
 use crate::values::references::{is_same_key_set, is_same_reference};
 use crate::values::sets::{is_same_set, is_same_value};
-use erd_check::values::{entries_of, is_empty_array};
+use erd_check::values::entries_of;
+use erd_meaning::members::means_nothing;
 use erd_tables::{Class, MemberKind, is_envelope, member_kind};
 use serde_json::Value;
 use std::alloc::AllocError;
@@ -86,24 +87,4 @@ fn is_same_array(comparer: &Comparer, one: &Value, other: &Value) -> Result<bool
     ensures { IfOk result (λ answer. Decides answer (json_set (entries_of (view one.now))) (json_set (entries_of (view other.now)))) }
 {
     is_same_set(comparer.alloc, entries_of(one), entries_of(other))
-}
-
-/// Returns whether a value of this kind means nothing by itself: an empty array of the table, or a value of a kind that has no
-/// meaning of its own, such as an array of objects.
-fn means_nothing(kind: MemberKind, value: &Value) -> bool
-    ensures { result ≡ means_nothing kind (view value.now) }
-{
-    match kind {
-        MemberKind::Word
-        | MemberKind::Flag
-        | MemberKind::Whole
-        | MemberKind::Carried
-        | MemberKind::Label
-        | MemberKind::One(_) => false,
-        MemberKind::Many(_)
-        | MemberKind::Identifiers
-        | MemberKind::Languages
-        | MemberKind::Content => is_empty_array(value),
-        _ => true,
-    }
 }

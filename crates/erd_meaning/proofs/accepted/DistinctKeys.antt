@@ -8,7 +8,7 @@ use Rattle.erd_meaning.proofs.Common.{election_keys, key_cmp_exact, Key, role, I
 use Rattle.erd_meaning.proofs.accepted.Standing.{has_identifier, values-placed_entries}
 use Rattle.erd_meaning.proofs.finding.OneObject.{those_kept, one_key}
 use Rattle.erd_meaning.proofs.finding.Found.{one_election_key}
-use Rattle.erd_meaning.proofs.orders.DistinctEntries.{distinct_from_one_place, distinct_map}
+use Rattle.erd_meaning.proofs.rising.DistinctEntries.{distinct_from_one_place, distinct_map}
 
 -- ---- the keys of elections
 

@@ -7,7 +7,7 @@ use Rattle.erd_meaning.proofs.Common.{report_of, elections, objects, meaning, pl
 use Rattle.erd_meaning.proofs.Common.{object_record, record_in_election, placed_record, placed_with_key, records_of, election_records, selection_role, name_of}
 use Rattle.erd_meaning.proofs.Common.{name_cmp, Key, inl, inr, cases_Bool}
 use Rattle.std.proofs.lemmas.List.Folds.{list_any-append}
-use Rattle.erd_meaning.proofs.orders.DistinctEntries.{options_exact, equal_keys, equal_names}
+use Rattle.erd_meaning.proofs.rising.DistinctEntries.{options_exact, equal_keys, equal_names}
 use Rattle.erd_meaning.proofs.meanings.WholeRecords.{names_in, absent_member, absent_plain, same_at_every_name, same_at_other_names}
 
 -- ---- members

@@ -11,7 +11,7 @@ use Rattle.erd_meaning.proofs.Common.{Key, cases_Bool, arith, and_then-Some, opt
 use Rattle.erd_meaning.proofs.finding.OneObject.{ranked, hit, missed}
 use Rattle.erd_meaning.proofs.identity.IdentityFaults.{same_key_from}
 use Rattle.erd_text.proofs.RisingOrders.{all_rising, rising_alike}
-use Rattle.erd_meaning.proofs.orders.KeyRanks.{IsKeyOf, counted_as_key}
+use Rattle.erd_meaning.proofs.rising.KeyRanks.{IsKeyOf, counted_as_key}
 use Rattle.erd_text.proofs.RisingLists.{rising_list_map}
 
 -- the order of borrowed keys

@@ -10,7 +10,7 @@ use Rattle.erd_meaning.proofs.Common.{those_of, Kept, kept, rank_among, rising_k
 use Rattle.erd_meaning.proofs.Common.{NumberedName, shown, Object, owner, contains_from_In, in_at, ranked_name_cmp}
 use Rattle.erd_meaning.proofs.accepted.Standing.{owned_by, has_identifier}
 use Rattle.erd_text.proofs.RisingOrders.{count_map}
-use Rattle.erd_meaning.proofs.orders.KeyRanks.{IsKeyOf, counted_as_key}
+use Rattle.erd_meaning.proofs.rising.KeyRanks.{IsKeyOf, counted_as_key}
 use Rattle.erd_meaning.specs.code.NumberedOrders.{numbered_as_named, numbers_as_keys}
 use Rattle.erd_meaning.proofs.finding.OneObject.{those_shown}
 use Rattle.erd_meaning.proofs.selections.PositionedKeys.{rising_positioned}

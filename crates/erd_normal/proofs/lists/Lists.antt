@@ -1,9 +1,9 @@
 -- Lists: what passes a test, what is built entry by entry, ranks, numbers and rising order.
 use Rattle.erd_normal.proofs.Common.{◌≡◌, zero, suc, Bool, true, false, List, [], ◌∷◌, ◌++◌, Contains, flat_map, sym, refl, ap, ◌∙◌, subst, append_assoc}
 use Rattle.erd_normal.proofs.Common.{append-nil, arith, lit<, and_parts, list_all, families, family_number, Family, family, IsDistinct, In, In-all}
-use Rattle.erd_normal.proofs.Common.{In-append_left, all_from_In, inl, inr, ℕ, ◌≤◌, map, length, if◌then◌else◌, ◌==◌, Some, None, Option, ap₂, same_Some}
+use Rattle.erd_normal.proofs.Common.{In-append_left, all_from_In, inl, inr, ℕ, ◌≤◌, map, length, ◌==◌, Some, None, Option, ap₂, same_Some}
 use Rattle.erd_normal.proofs.Common.{AllByRecursion, Data, array, Items, no_items, item, get_item, items_of, IsTree, list_of_items, entries_of, depth, is_array}
-use Rattle.erd_normal.proofs.Common.{is_empty_array, AreTrees, items_depth, list_of_items-items_of, unless_no_entry, array_of, cond, filter, is_lt, is_gt}
+use Rattle.erd_normal.proofs.Common.{is_empty_array, AreTrees, items_depth, list_of_items-items_of, array_of, cond, filter, is_lt, is_gt}
 use Rattle.erd_normal.proofs.Common.{Ordering, Less, Equal, Greater, true≢false, IsTotalOrder, all_weakened, with_inserted, rising_list, NeverFalls}
 use Rattle.erd_normal.proofs.Common.{rising_never_falls, In-filter, ◌<◌, tied_itself, less, greater_turned, ◌+◌, ◌⊎◌, slice_get, option_map, length-map}
 use Rattle.erd_normal.proofs.Common.{slice_get-map, enumerate_from, IsPermutation, IsSorted, option_and_then, nat_cmp, nat_cmp_total, CmpEqualImpliesEq}
@@ -104,11 +104,6 @@ entry_holds P (x ∷ xs) (suc i) e all found = entry_holds P xs i e all.1 found
 pub as_empty : (d : Data) (es : List Data) → is_array d ≡ true → length es ≡ length (entries_of d) → is_empty_array (array_of es) ≡ is_empty_array d
 as_empty (array ds) es is same = ap (λ n. n == 0) (ap length (list_of_items-items_of es) ∙ same)
 as_empty d es is same = cc
-
--- what is given is the value, and the array is not empty
-pub given_unless : (d v v' : Data) → unless_no_entry d v ≡ Some v' → (is_empty_array d ≡ false) × (v ≡ v')
-given_unless d v v' = elim (is_empty_array d) as (λ b. (if b then None else Some v) ≡ Some v' → (b ≡ false) × (v ≡ v'))
-    [ true ↦ λ e. cc | false ↦ λ e. (refl, same_Some v v' e) ]
 
 -- the entries of an array make it again
 pub items_again : (ds : Items) → items_of (list_of_items ds) ≡ ds

@@ -19,7 +19,7 @@ use Rattle.erd_check.proofs.Positions.{left_there}
 use Rattle.erd_meaning.specs.NumberedNames.{RankedParts}
 use Rattle.erd_meaning.specs.Places.{places_put}
 use Rattle.erd_meaning.specs.RankedNames.{ranked_name_cmp}
-use Rattle.erd_meaning.proofs.orders.OrdersMade.{all_low, ranks_are}
+use Rattle.erd_meaning.proofs.rising.OrdersMade.{all_low, ranks_are}
 use Rattle.erd_meaning.proofs.selections.PositionedKeys.{positioned-append, positioned_made}
 use Rattle.erd_meaning.proofs.selections.RankedReports.{ranked_name_of, ranked_names_alike}
 use Rattle.erd_normal.proofs.canonical.NormalKeys.{selection_values_distinct}

@@ -3,7 +3,7 @@ use Rattle.erd_normal.proofs.Common.{◌≡◌, Bool, true, false, List, map, So
 use Rattle.erd_normal.proofs.Common.{if◌then◌else◌, true≢false, is_lt, Less, Greater, CmpEqualImpliesEq, IsTotalOrder, ordering_reverse, less, triple_of}
 use Rattle.erd_normal.proofs.Common.{key_of_identifiers, whole-reordered, Key, fun_ext, IsPermutation}
 use Rattle.erd_meaning.specs.code.ChosenKeys.{choice_cmp, choice_of, choice_of_two}
-use Rattle.erd_meaning.proofs.orders.ChoiceOrder.{choice_cmp_exact, choice_cmp_total, key_is_choice}
+use Rattle.erd_meaning.proofs.rising.ChoiceOrder.{choice_cmp_exact, choice_cmp_total, key_is_choice}
 
 -- ---- the lesser of two
 

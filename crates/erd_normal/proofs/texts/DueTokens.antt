@@ -1,7 +1,7 @@
 -- Members that are put into an object, and the tokens that are written of them.
 use Rattle.erd_normal.proofs.Common.{◌≡◌, ℕ, true, false, not, List, [], ◌∷◌, is_some, if◌then◌else◌, Some, None, codes, refl, ap, Data, null, string, Members}
 use Rattle.erd_normal.proofs.Common.{no_members, member, Class, Family, family, MemberKind, kind, Preference, is_empty_array, is_envelope_name, put_in}
-use Rattle.erd_normal.proofs.Common.{unless_no_entry, normal_value, normal_members, normal_node_value, with_id, envelope_values, in_envelope, holds_objects}
+use Rattle.erd_normal.proofs.Common.{normal_value, normal_members, normal_node_value, with_id, envelope_values, in_envelope, holds_objects}
 use Rattle.erd_normal.proofs.Common.{written_object_value, written_election_value, written_report_value, slice_get, option_map, sym, ◌∙◌, object, get_item}
 use Rattle.erd_normal.proofs.Common.{has_float, items_have_float, role, Within, list_of_items, entries_at, Asked, asked, IsAccepted, Placed, elections, objects}
 use Rattle.erd_normal.proofs.Common.{all_at, within-holds, Object, option_map-Some, skeleton, election_stands, stands, in_at, zero, suc, ◌+◌, ◌<◌, ◌≤◌, Bool}
@@ -12,6 +12,7 @@ use Rattle.erd_normal.proofs.Common.{IsBeforeAll, NamesRise, WritesThrough, arra
 use Rattle.erd_normal.proofs.lists.Lists.{entry_holds, items_again}
 use Rattle.erd_text.proofs.WholeValues.{whole_entries, whole_get, all_whole}
 use Rattle.erd_check.proofs.Positions.{left_there}
+use Rattle.erd_meaning.proofs.EmptyLists.{given_by_test}
 use Rattle.erd_normal.specs.declared.objects.due_members.DueMember.{DueMember}
 use Rattle.erd_text.proofs.WrittenTokens.{then_rest}
 
@@ -56,15 +57,11 @@ pub other_node_value : (π : Preference) (t : Data) (k : MemberKind) (d inside :
 other_node_value π t kind.Content d inside other = absurd (other refl)
 other_node_value π t k d inside other = refl
 
--- a value is kept unless it is an empty array
-pub kept_unless_empty : (d v : Data) → is_some (unless_no_entry d v) ≡ not (is_empty_array d)
-kept_unless_empty d v = elim (is_empty_array d) as (λ b. is_some (if b then None else Some v) ≡ not b) [ true ↦ refl | false ↦ refl ]
-
 -- a member of an object is kept: its content or its selections unless empty, and others by their kind
 pub kept_in_object : (π : Preference) (t : Data) (i : ℕ) (k : MemberKind) (d : Data) → is_some (written_object_value π t i k d)
     ≡ (if holds_objects k then not (is_empty_array d) else is_some (normal_value π t k d))
-kept_in_object π t i kind.Content d = kept_unless_empty d _
-kept_in_object π t i (kind.Keyed family.Selection) d = kept_unless_empty d _
+kept_in_object π t i kind.Content d = given_by_test _ d
+kept_in_object π t i (kind.Keyed family.Selection) d = given_by_test _ d
 kept_in_object π t i (kind.Keyed f) d = cc
 kept_in_object π t i k d = refl
 

@@ -10,7 +10,7 @@ use Rattle.erd_normal.proofs.Common.{Reference, Status, IsAccepted, no_shape_fau
 use Rattle.erd_normal.proofs.Common.{normal_selection_reference, normal_content, normal_nodes, normal_node, normal_node_members, normal_node_value}
 use Rattle.erd_normal.proofs.Common.{normal_members, reference_cmp, compact_cmp, rising_list, with_rising_text, array_of, within-tree, members_unique}
 use Rattle.erd_normal.proofs.Common.{found_cases, get_member-first, get_member-later, kind_of_type, kind_of_unlisted_has, text_exact, class_role}
-use Rattle.erd_normal.proofs.Common.{option_and_then, In-rising, AreMembers}
+use Rattle.erd_normal.proofs.Common.{option_and_then, In-rising, AreMembers, unless_empty, unless_by_test}
 use Rattle.erd_check.specs.Wants.{is_table_set}
 use Rattle.erd_normal.proofs.inside.Members.{Builder, each_member, normal_members_each, normal_node_members_each, node_value, value_in_class}
 use Rattle.erd_normal.proofs.inside.Entries.{entry_asked, entries_asked}
@@ -125,6 +125,10 @@ module _ (π : Preference) (t : Data) where
 
 abbrev pub kept_view : Preference → Data → Data → Option Want → Data → Option Data
 kept_view π t o a d = if is_dropped a d then None else Some (view (style_of π t) o a d)
+
+-- a value that is left out if it is an empty array is left out in the view too
+pub left_out_as : {v x : Data} (d : Data) → v ≡ x → unless_empty v d ≡ (if is_empty_array d then None else Some x)
+left_out_as {v} d same = unless_by_test v d ∙ ap (λ v. if is_empty_array d then None else Some v) same
 
 abbrev pub is_flat_kind : MemberKind → Bool
 is_flat_kind kind.ClassText = false
@@ -264,15 +268,15 @@ module _ (π : Preference) (t : Data) (accepted : IsAccepted π t) (tree : IsTre
   value_viewed kind.Content r o d flat w = cc
   value_viewed kind.Label r o d flat w = ap Some (label_viewed o false d w)
   value_viewed (kind.One f) r o d flat w = let x = reference_refers π t accepted f d w in ap Some (reference_viewed f flat o d x.0 x.1)
-  value_viewed (kind.Many f) r o d flat w = ap (λ v. if is_empty_array d then None else Some v)
+  value_viewed (kind.Many f) r o d flat w = left_out_as d
       (many_viewed f flat o r d (wanted_within t clean (asked (Member (kind.Many f) r) d) w) w)
   value_viewed kind.Identifiers r o d flat w =
-      ap (λ v. if is_empty_array d then None else Some v)
+      left_out_as d
       (simple_viewed o (Member kind.Identifiers false) d (wanted_within t clean (asked (Member kind.Identifiers false) d) w) refl refl (λ x y. refl))
   value_viewed kind.Languages r o d flat w =
-      ap (λ v. if is_empty_array d then None else Some v)
+      left_out_as d
       (simple_viewed o (Member kind.Languages r) d (wanted_within t clean (asked (Member kind.Languages r) d) w) refl refl (λ x y. refl))
-  value_viewed kind.Ordered r o d flat w = ap (λ v. if is_empty_array d then None else Some v)
+  value_viewed kind.Ordered r o d flat w = left_out_as d
       (ordered_viewed o false d (wanted_within t clean (asked (Member kind.Ordered false) d) w) w)
   value_viewed kind.Identity r o d flat w = refl
   value_viewed kind.Outside r o d flat w =
@@ -342,7 +346,7 @@ module _ (π : Preference) (t : Data) (accepted : IsAccepted π t) (tree : IsTre
 
   node_value_viewed : (k : MemberKind) (required : Bool) (o d : Data) → is_node_flat k ≡ true → IsContentViewed d → Within t (asked (want_of_kind k required) d)
       → normal_node_value π t (Some k) d (normal_content π t d) ≡ kept_view π t o (Some (want_of_kind k required)) d
-  node_value_viewed kind.Content required o d is content w = ap (λ v. if is_empty_array d then None else Some v) (content o false w)
+  node_value_viewed kind.Content required o d is content w = left_out_as d (content o false w)
   node_value_viewed k required o d is content w = value_viewed k required o d is w
 
   node_with : (ms : Members) (o : Data) → Within t (asked (Object role.Content) (object ms))

@@ -4,12 +4,12 @@ use Rattle.erd_normal.proofs.Common.{◌≡◌, ℕ, ◌+◌, Bool, true, false,
 use Rattle.erd_normal.proofs.Common.{bytes_eq, sym, refl, ap, ◌∙◌, subst, arith, filter, flat_map, option_cmp, key_cmp, Data, null, array, object, Items}
 use Rattle.erd_normal.proofs.Common.{Members, get_member, kind_of_member, role_of_class, Class, class, Family, family, Role, role, MemberKind, kind, reason}
 use Rattle.erd_normal.proofs.Common.{IsTree, In, In-flat_map, In-map_from, In-filter, in_at, faultless, wanted_within, kind_of_class, object_in, ObjectIn}
-use Rattle.erd_normal.proofs.Common.{ShapeFault, NoneOf, entries_of, entries_at, list_of_items, is_array, is_empty_array, array_from, class_of_object}
+use Rattle.erd_normal.proofs.Common.{ShapeFault, NoneOf, entries_of, entries_at, list_of_items, is_array, array_from, class_of_object}
 use Rattle.erd_normal.proofs.Common.{scope_inside, want_of_kind, asked, Within, scope, Member, Object, IsAccepted, no_shape_fault, skeleton, Skeleton}
 use Rattle.erd_normal.proofs.Common.{election_stands, election_entries, Preference, key_of, has_keys, is_envelope_name, Placed, objects, elections, contests}
 use Rattle.erd_normal.proofs.Common.{selections_of_contest, report_of, placed_entries, values-placed_entries, rising_list, rising_list_map, In-rising, by_key}
 use Rattle.erd_normal.proofs.Common.{by_name, name_of, rank_of, rank_of_name, canonical_selection_id, id_of_key, selection_role, normal_value}
-use Rattle.erd_normal.proofs.Common.{normal_object_with, with_id, in_envelope, array_of, unless_no_entry, written_selection, written_in_contest}
+use Rattle.erd_normal.proofs.Common.{normal_object_with, with_id, in_envelope, array_of, unless_empty, written_selection, written_in_contest}
 use Rattle.erd_normal.proofs.Common.{written_object_value, written_object, written_objects, written_election_value, written_election, written_elections}
 use Rattle.erd_normal.proofs.Common.{written_report_value, objects_in_election, rising_objects, rising_elections, put_all, within-tree, stands}
 use Rattle.erd_meaning.specs.code.Spots.{member_name}
@@ -22,7 +22,7 @@ use Rattle.erd_normal.proofs.ranks.SelectionRanks.{stands as standing, values}
 use Rattle.erd_normal.proofs.ranks.WrittenTrees.{in_elections_kept, in_order, in_report_kept, is_in, map_by_place, values_in_election, written_tree}
 use Rattle.erd_normal.proofs.view.Views.{viewed, written_entries}
 use Rattle.erd_normal.proofs.view.CanonicalStyles.{Classed, apart, classed, given_by_key}
-use Rattle.erd_normal.proofs.view.ValuesViewed.{content_viewed, is_flat_kind, kept_view, members_viewed, name_viewed, value_viewed}
+use Rattle.erd_normal.proofs.view.ValuesViewed.{content_viewed, is_flat_kind, kept_view, left_out_as, members_viewed, name_viewed, value_viewed}
 use Rattle.erd_normal.specs.code.View.{as_member, id_given, style_of, view, view_members, whole}
 
 abbrev is_object_flat : MemberKind → Bool
@@ -134,7 +134,7 @@ module _ (π : Preference) (t : Data) (accepted : IsAccepted π t) (tree : IsTre
         ap (entries_at (codes "ContestSelection")) is ∙ ap (λ x. option_map_or entries_of x []) (ap (λ n. get_member n ms) (sym called) ∙ found) in
         let them = ap (λ x. option_map_or (λ (o : Placed). written_in_contest π t o.value) x []) (subst (λ g. slice_get (objects g t) j ≡ Some o) contest at)
         ∙ selections_as o (subst (λ g. In o (objects g t)) contest h) in
-        ap (λ v. if is_empty_array d then None else Some v)
+        left_out_as d
         (ap array_of them ∙ set_as (object ms) (kind.Keyed family.Selection) r d _ (wanted_within t clean (asked (Member (kind.Keyed family.Selection) r) d) w)
         (λ array_is ds same.
         ap array_of
@@ -148,7 +148,7 @@ module _ (π : Preference) (t : Data) (accepted : IsAccepted π t) (tree : IsTre
         (Some (want_of_kind k r)) d
     object_value_as c ms name d r of is found (kind.Keyed family.Selection) named flat w = chosen_as c ms name d false of is found named w
     object_value_as c ms name d r of is found kind.Content named flat w =
-        ap (λ v. if is_empty_array d then None else Some v) (content_viewed π t accepted tree d (object ms) false w)
+        left_out_as d (content_viewed π t accepted tree d (object ms) false w)
     object_value_as c ms name d r of is found (kind.Keyed f) named flat w = cc
     object_value_as c ms name d r of is found k named flat w = value_viewed π t accepted tree k r (object ms) d flat w
 
@@ -188,10 +188,10 @@ module _ (π : Preference) (t : Data) (accepted : IsAccepted π t) (tree : IsTre
   -- the array of them
   array_written : (f : Family) → has_keys f ≡ true → (holder : Data) (r : Bool) (i : ℕ) (d : Data) → map (λ o. o.value) (filter (is_in i) (objects f t))
       ≡ entries_of d → Within t (asked (Member (kind.Keyed f) r) d)
-      → unless_no_entry d (array_of (written_objects π t f i)) ≡ kept_view π t holder (Some (Member (kind.Keyed f) r)) d
+      → unless_empty (array_of (written_objects π t f i)) d ≡ kept_view π t holder (Some (Member (kind.Keyed f) r)) d
   array_written family.Selection keyed holder r i d is w = cc
   array_written f keyed holder r i d is w =
-      ap (λ v. if is_empty_array d then None else Some v)
+      left_out_as d
       (set_as holder (kind.Keyed f) r d (written_objects π t f i) (wanted_within t clean (asked (Member (kind.Keyed f) r) d) w)
       (λ array_is ds same. ap array_of (objects_written f refl holder i (list_of_items ds) (is ∙ ap entries_of same)
       ∙ sym (written_entries (style_of π t) holder (Member (kind.Keyed f) r) ds))))

@@ -1,5 +1,5 @@
 -- What values and contents of a report become. It does not define the profile: `IsCanonicalFormOf` does.
-use Rattle.std.specs.Prelude.{ℕ, List, [], ◌∷◌, true, false, if◌then◌else◌, Option, Some, None, option_map, unwrap_or, map, filter, find, length, codes}
+use Rattle.std.specs.Prelude.{ℕ, List, [], ◌∷◌, true, false, Option, Some, None, option_map, unwrap_or, map, filter, find, length, codes}
 use Rattle.std.specs.Option.{option_cmp, option_map_or}
 use Rattle.std.specs.Ordering.{is_lt}
 use Rattle.std.specs.declared.cmp.Ordering.{Ordering}
@@ -11,12 +11,11 @@ use Rattle.erd_tables.specs.declared.class.Family.{Family}
 use Rattle.erd_tables.specs.declared.class.Family.TheVariants as family
 use Rattle.erd_tables.specs.declared.member.MemberKind.{MemberKind}
 use Rattle.erd_tables.specs.declared.member.MemberKind.TheVariants as kind
-use Rattle.erd_check.specs.Faults.{is_empty_array}
 use Rattle.erd_check.specs.Values.{entries_of, entries_at, text_of}
 use Rattle.erd_meaning.specs.Keys.{Preference, key_cmp, key_of}
 use Rattle.erd_meaning.specs.NameParts.{NameParts}
 use Rattle.erd_meaning.specs.Objects.{has_id, contests, selections_of_contest, Placed}
-use Rattle.erd_meaning.specs.Records.{class_of_node}
+use Rattle.erd_meaning.specs.Records.{class_of_node, unless_empty}
 use Rattle.erd_meaning.specs.SelectionNames.{key_named, name_cmp, name_of}
 use Rattle.erd_text.specs.RisingLists.{compact_cmp, rising_list, with_rising_text}
 use Rattle.erd_meaning.specs.declared.keys.key.Key.{Key}
@@ -66,10 +65,6 @@ normal_selection_reference π t d =
 
 -- ---- members
 
--- The second value, or none if the first one is an empty array.
-abbrev pub unless_no_entry : Data → Data → Option Data
-unless_no_entry d v = if is_empty_array d then None else Some v
-
 -- The array of these values.
 abbrev pub array_of : List Data → Data
 array_of ds = array (items_of ds)
@@ -83,10 +78,10 @@ normal_label d = with_rising_text d
 abbrev pub normal_value : Preference → Data → MemberKind → Data → Option Data
 normal_value π t kind.Label d = Some (normal_label d)
 normal_value π t (kind.One f) d = Some (normal_reference π t f d)
-normal_value π t (kind.Many f) d = unless_no_entry d (array_of (map (normal_reference π t f) (rising_list (reference_cmp π t f) (entries_of d))))
-normal_value π t kind.Identifiers d = unless_no_entry d (array_of (rising_list compact_cmp (entries_of d)))
-normal_value π t kind.Languages d = unless_no_entry d (array_of (rising_list compact_cmp (entries_of d)))
-normal_value π t kind.Ordered d = unless_no_entry d (array_of (map (normal_selection_reference π t) (entries_of d)))
+normal_value π t (kind.Many f) d = unless_empty (array_of (map (normal_reference π t f) (rising_list (reference_cmp π t f) (entries_of d)))) d
+normal_value π t kind.Identifiers d = unless_empty (array_of (rising_list compact_cmp (entries_of d))) d
+normal_value π t kind.Languages d = unless_empty (array_of (rising_list compact_cmp (entries_of d))) d
+normal_value π t kind.Ordered d = unless_empty (array_of (map (normal_selection_reference π t) (entries_of d))) d
 normal_value π t kind.Identity d = None
 normal_value π t kind.Outside d = None
 normal_value π t k d = Some d
@@ -107,7 +102,7 @@ normal_object_with value_of c d = d
 
 -- What a member of a contest or a header becomes, given what its value becomes as a list of contests and headers.
 abbrev pub normal_node_value : Preference → Data → Option MemberKind → Data → Data → Option Data
-normal_node_value π t (Some kind.Content) d inside = unless_no_entry d inside
+normal_node_value π t (Some kind.Content) d inside = unless_empty inside d
 normal_node_value π t (Some k) d inside = normal_value π t k d
 normal_node_value π t None d inside = Some d
 

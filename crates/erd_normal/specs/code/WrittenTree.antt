@@ -16,11 +16,12 @@ use Rattle.erd_check.specs.Wants.{class_of_object}
 use Rattle.erd_meaning.specs.Keys.{Preference, key_of}
 use Rattle.erd_meaning.specs.Lookups.{rank_of}
 use Rattle.erd_meaning.specs.Objects.{contests}
+use Rattle.erd_meaning.specs.Records.{unless_empty}
 use Rattle.erd_meaning.specs.SelectionNames.{selection_role}
 use Rattle.erd_text.specs.RisingLists.{rising_list}
 use Rattle.erd_normal.specs.Canonical.{canonical_selection_id}
 use Rattle.erd_normal.specs.code.ElectionObjects.{objects_in_election, rising_elections}
-use Rattle.erd_normal.specs.code.NormalTree.{array_of, by_name, id_of_key, normal_content, normal_object_with, normal_value, unless_no_entry, with_id}
+use Rattle.erd_normal.specs.code.NormalTree.{array_of, by_name, id_of_key, normal_content, normal_object_with, normal_value, with_id}
 
 -- What each entry becomes with its rank, counted from n.
 abbrev pub map_from : {A B : Type 0} → (ℕ → A → B) → ℕ → List A → List B
@@ -51,8 +52,8 @@ holds_objects k = false
 
 -- A member of the object of a family at position i. In a contest, this includes the selections.
 abbrev pub written_object_value : Preference → Data → ℕ → MemberKind → Data → Option Data
-written_object_value π t i (kind.Keyed family.Selection) d = unless_no_entry d (array_of (written_selections π t i))
-written_object_value π t i kind.Content d = unless_no_entry d (normal_content π t d)
+written_object_value π t i (kind.Keyed family.Selection) d = unless_empty (array_of (written_selections π t i)) d
+written_object_value π t i kind.Content d = unless_empty (normal_content π t d) d
 written_object_value π t i k d = normal_value π t k d
 
 -- The object of one of the first eight families, at position i.
@@ -69,7 +70,7 @@ written_objects π t f election = map (λ o. written_object π t f o.0 o.1.value
 
 -- A member of the election at this position.
 abbrev pub written_election_value : Preference → Data → ℕ → MemberKind → Data → Option Data
-written_election_value π t election (kind.Keyed f) d = unless_no_entry d (array_of (written_objects π t f election))
+written_election_value π t election (kind.Keyed f) d = unless_empty (array_of (written_objects π t f election)) d
 written_election_value π t election k d = normal_value π t k d
 
 -- The election at this position.
@@ -82,6 +83,6 @@ written_elections π t = map (λ e. written_election π t e.0 e.1.value) (rising
 
 -- A member of the report.
 abbrev pub written_report_value : Preference → Data → List ℕ → MemberKind → Data → Option Data
-written_report_value π t name (kind.Keyed f) d = unless_no_entry d (array_of (written_objects π t f 0))
+written_report_value π t name (kind.Keyed f) d = unless_empty (array_of (written_objects π t f 0)) d
 written_report_value π t name kind.Elections d = Some (array_of (written_elections π t))
 written_report_value π t name k d = if is_envelope_name name then None else normal_value π t k d

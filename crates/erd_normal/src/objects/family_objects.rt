@@ -24,6 +24,7 @@ struct ObjectMembers<'a> {
     position: usize,
 }
 
+#[tactic(auto, using(crate::proofs::Common::unless_by_test))]
 impl<'a> MemberRule for ObjectMembers<'a> {
     ghost value_of = { λ rule name kind d. written_object_value rule.writer.now.prefer (view rule.writer.now.tree) rule.position kind d };
 

@@ -21,6 +21,7 @@ struct ElectionMembers<'a> {
     election: usize,
 }
 
+#[tactic(auto, using(crate::proofs::Common::unless_by_test))]
 impl<'a> MemberRule for ElectionMembers<'a> {
     ghost value_of = { λ rule name kind d. written_election_value rule.writer.now.prefer (view rule.writer.now.tree) rule.election kind d };
 

@@ -22,6 +22,7 @@ struct ReportMembers<'a> {
     writer: &'a Writer<'a>,
 }
 
+#[tactic(auto, using(crate::proofs::Common::unless_by_test))]
 impl<'a> MemberRule for ReportMembers<'a> {
     ghost value_of = { λ rule name kind d. written_report_value rule.writer.now.prefer (view rule.writer.now.tree) name kind d };
 

@@ -119,6 +119,7 @@ fn write_node_value(
 
 /// Writes the canonical value of a member of this kind of a contest or a header. The member is kept.
 #[cycle(content)]
+#[tactic(auto, using(crate::proofs::Common::unless_by_test))]
 fn write_listed(
     writer: &Writer,
     kind: MemberKind,
@@ -147,6 +148,7 @@ fn is_kept_in_node(kind: Option<MemberKind>, value: &Value) -> bool
 }
 
 /// Returns whether a member of this kind of a contest or a header is kept.
+#[tactic(auto, using(crate::proofs::Common::unless_by_test))]
 fn is_listed_kept(kind: MemberKind, value: &Value) -> bool
     ensures { (π : Preference) (t inside : Data) → result ≡ is_some (normal_node_value π t (Some kind) (view value.now) inside) }
 {

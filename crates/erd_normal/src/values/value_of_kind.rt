@@ -13,6 +13,7 @@ use std::alloc::AllocError;
 
 /// Returns whether a member of this kind, which holds no objects, is kept. An empty set or list is left out, and so are `@id`
 /// and members outside the profile.
+#[tactic(auto, using(crate::proofs::Common::unless_by_test))]
 pub(crate) fn is_kept(kind: MemberKind, value: &Value) -> bool
     ensures { (π : Preference) (t : Data) → result ≡ is_some (normal_value π t kind (view value.now)) }
 {
@@ -27,6 +28,7 @@ pub(crate) fn is_kept(kind: MemberKind, value: &Value) -> bool
 }
 
 /// Writes the canonical value of a member of this kind, which holds no objects and is kept.
+#[tactic(auto, using(crate::proofs::Common::unless_by_test))]
 pub(crate) fn write_of_kind(
     writer: &Writer,
     kind: MemberKind,

@@ -1,7 +1,7 @@
 use Rattle.erd_meaning.proofs.Common.{◌≡◌, ℕ, ◌<◌, List, map, length, replicate, option_copied, sym, ap, ◌∙◌, subst, map-map, options_total, AllByRecursion}
 use Rattle.erd_meaning.proofs.Common.{option_cmp, key_cmp, places_put, rising_list, positioned, seen_keys, keys_seen, rising_positions, key_cmp_total}
 use Rattle.erd_meaning.proofs.selections.PositionedKeys.{KeyEntry, KeyPosition, rising_seen}
-use Rattle.erd_meaning.proofs.orders.OrdersMade.{all_low, ranks_are}
+use Rattle.erd_meaning.proofs.rising.OrdersMade.{all_low, ranks_are}
 use Rattle.erd_meaning.proofs.objects.order.Order.of.Goals as goal
 
 -- the positions that stand with sorted keys are those in the rising order of the keys

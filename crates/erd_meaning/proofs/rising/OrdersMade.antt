@@ -2,7 +2,7 @@
 use Rattle.erd_meaning.proofs.Common.{◌≡◌, ℕ, ◌+◌, ◌<◌, List, [], ◌∷◌, map, length, replicate, slice_get, Some, option_map, is_lt, Ordering, sym, ap, ◌∙◌}
 use Rattle.erd_meaning.proofs.Common.{subst, arith, on_total, length-map, length-replicate, slice_get-map, slice_get_within, IsTotalOrder, AllByRecursion}
 use Rattle.erd_meaning.proofs.Common.{IsDistinct, eq_by_cmp, all_from_In, places_put, rising_list, positioned, rank_by, positions_by, option_map-Some, in_at}
-use Rattle.erd_meaning.proofs.orders.PlacesPut.{StandOnce, length_put, put_at, same_entries}
+use Rattle.erd_meaning.proofs.rising.PlacesPut.{StandOnce, length_put, put_at, same_entries}
 use Rattle.erd_text.proofs.RisingLists.{by_first}
 use Rattle.erd_text.proofs.RisingOrders.{rank_at, rank_in, stands_at_rank, In-rising, length-rising}
 use Rattle.erd_meaning.proofs.selections.PositionedKeys.{apart_positioned, count_positioned, key_positioned, length_positioned, one_positioned_at}
