@@ -146,6 +146,34 @@ def repeated(report):
     report['GpUnit'][0]['ExternalIdentifier'] += report['GpUnit'][0]['ExternalIdentifier']
 
 
+def unseen(report):
+    """Members that no ballot shows."""
+    report['GpUnit'][0] |= {'AuthorityIds': [report['Person'][0]['@id']], 'IsDistricted': True, 'IsMailOnly': False}
+    report['Party'][0] |= {'LeaderPersonIds': [report['Person'][0]['@id']], 'PartyScopeGpUnitIds': [report['GpUnit'][0]['@id']]}
+    report['Office'][0]['OfficeHolderPersonIds'] = [report['Person'][0]['@id']]
+    candidates(report)[0]['FileDate'] = '2026-06-01'
+    next(contest for contest in contests(report) if 'VotesAllowed' in contest)['NumberRunoff'] = 2
+
+
+def false_flags(report):
+    """Truth values that are false, where another file has none. One in a member of a vendor's own stays."""
+    report['IsTest'] = False
+    report['GpUnit'][0]['IsOpen'] = False
+    for contest in contests(report):
+        contest['HasRotation'] = False
+    for candidate in candidates(report):
+        candidate |= {'IsIncumbent': False, 'IsTopTicket': False}
+    for selection in selections(report):
+        if selection['@type'] == CLASS + 'CandidateSelection' and selection.get('IsWriteIn') is not True:
+            selection['IsWriteIn'] = False
+
+
+def other_codes(report):
+    """A number of the vendor beside each identifier of a unit and of a candidate."""
+    for number, one in enumerate(report['GpUnit'] + candidates(report)):
+        one['ExternalIdentifier'].append({**identifier(f'{number}', 'other'), 'OtherType': 'vendor'})
+
+
 def gone_candidates(report):
     """Takes out a candidate whom one line names, and no contest."""
     times = [text for selection in selections(report) for text in selection.get('CandidateIds', [])]
@@ -298,5 +326,6 @@ DAMAGES = {
     'empty-texts': (COUNTY, empty_texts), 'names': (COUNTY, names), 'county-codes': (COUNTY, two_counties),
     'shared-codes': (COUNTY, shared_codes), 'codes': (ELECTIONS, codes), 'write-in-lines': (COUNTY, write_in_lines),
     'party-lines': (COUNTY, party_lines), 'unused-ids': (COUNTY, unused_ids), 'town-codes': (COUNTY, two_towns),
-    'write-in-candidates': (COUNTY, write_in_candidates),
+    'write-in-candidates': (COUNTY, write_in_candidates), 'unseen': (COUNTY, unseen), 'false-flags': (COUNTY, false_flags),
+    'other-codes': (COUNTY, other_codes),
 }

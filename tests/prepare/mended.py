@@ -51,6 +51,42 @@ def vendor_texts(report):
     report['GpUnit'][0]['ContactInformation'] = {'BuildingCodes': ['7', {'RoomCode': '8'}]}
 
 
+# The members of each class that no ballot shows, and the truth values of the standard.
+UNSEEN = {'ReportingUnit': ['AuthorityIds', 'IsDistricted', 'IsMailOnly'], 'Party': ['LeaderPersonIds', 'PartyScopeGpUnitIds'],
+          'Coalition': ['LeaderPersonIds', 'PartyScopeGpUnitIds'], 'Office': ['OfficeHolderPersonIds'], 'Candidate': ['FileDate'],
+          'CandidateContest': ['NumberRunoff']}
+FLAGS = ('IsTest', 'IsDistricted', 'IsMailOnly', 'IsPartisan', 'IsIncumbent', 'IsTopTicket', 'HasRotation', 'IsWriteIn')
+
+
+def objects(report):
+    """The report, and each object in one of its lists of objects, or of an election or a contest."""
+    families = [entry for name in ('GpUnit', 'Party', 'Person', 'Office', 'Header', 'Election') for entry in report[name]]
+    return [report, *families, *damages.candidates(report), *contests(report), *selections(report), *styles(report)]
+
+
+def unseen(report):
+    for entry in objects(report):
+        for name in UNSEEN.get(entry['@type'].removeprefix(CLASS), []):
+            entry.pop(name, None)
+
+
+def false_flags(report):
+    damages.false_flags(report)
+    for entry in objects(report):
+        for name in FLAGS:
+            if entry.get(name) is False:
+                del entry[name]
+
+
+def other_codes(report):
+    """What has no identifier of another type keeps all that it has."""
+    damages.other_codes(report)
+    for entry in objects(report):
+        codes = entry.get('ExternalIdentifier', [])
+        if any(one['Type'] != 'other' for one in codes):
+            entry['ExternalIdentifier'] = [one for one in codes if one['Type'] != 'other']
+
+
 def gone_candidates(report):
     """The line of the candidate is gone, on each ballot too."""
     before = [candidate['@id'] for candidate in damages.candidates(report)]
@@ -151,6 +187,6 @@ def party_lines(report):
             line['ExternalIdentifier'] = named('endorsement', '+'.join(sorted(codes_of[text] for text in line['EndorsementPartyIds'])))
 
 
-CHANGES = (nulls, kinds, unused_ids, coordinates, whole_numbers, stray_ids, vendor_identifiers, vendor_texts, gone_candidates, empty_lists, empty_texts,
-           names, county_codes, town_codes, shared_codes, codes, write_in_lines, write_in_candidates, party_lines)
+CHANGES = (nulls, kinds, unused_ids, coordinates, whole_numbers, stray_ids, vendor_identifiers, vendor_texts, unseen, false_flags, other_codes,
+           gone_candidates, empty_lists, empty_texts, names, county_codes, town_codes, shared_codes, codes, write_in_lines, write_in_candidates, party_lines)
 MENDED = {change.__name__.replace('_', '-'): change for change in CHANGES}

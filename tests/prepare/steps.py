@@ -75,7 +75,7 @@ def compared(left, right):
 def words():
     """docs/FIXES.md lists the steps, with the words of the packages."""
     page = (ROOT / 'docs' / 'FIXES.md').read_text(encoding='utf-8')
-    rows = re.findall(r'^\| `([a-z-]+)` \| (removed|filled-in|visible) \| (.*) \| [^|]* \|$', page, re.M)
+    rows = re.findall(r'^\| `([a-z-]+)` \| (removed|filled-in|visible|view) \| (.*) \| [^|]* \|$', page, re.M)
     yield 'the steps of docs/FIXES.md', [(step.name, step.group, step.does) for step in STEPS], rows
     texts = json.loads((ROOT / 'web' / 'texts.en.json').read_text(encoding='utf-8'))
     said = [(step.title, step.does, step.loses) for step in STEPS]
@@ -83,6 +83,10 @@ def words():
 
 
 # ---- what the steps do
+
+
+# Steps that fix no fault, but take out what only a comparison would tell.
+NO_FAULT = ('empty-lists', 'unseen', 'false-flags', 'other-codes')
 
 
 class Turning(random.Random):
@@ -101,7 +105,7 @@ def laws_of_steps(dice):
         yield f'{name}: its changes are told', [name], [it['step'] for it in done if it['count']]
         yield f'{name}: it mends', ['accepted'], judged(prepared)
         yield f'{name}: what it means then', 'same', compared(bytes_of(damaged_so(mended.MENDED.get(name, lambda report: None), file)), prepared)
-        if name != 'empty-lists':
+        if name not in NO_FAULT:
             yield f'{name}: something was wrong', True, judged(data) != ['accepted']
         for number, other_dice in enumerate((dice, dice, Turning())):
             other, _ = by_the_library(bytes_of(rearranged(report, other_dice)), [name])

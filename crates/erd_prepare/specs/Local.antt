@@ -8,6 +8,8 @@ use Rattle.std.specs.Str.{bytes_eq}
 use Rattle.serde_json.specs.Data.{Data, null, boolean, number, float, string, array, object, Items, no_items, item, Members, no_members, member}
 use Rattle.serde_json.specs.Find.{as_number, get, to_float}
 use Rattle.erd_tables.specs.Table.{is_required}
+use Rattle.erd_tables.specs.declared.class.Class.{Class}
+use Rattle.erd_tables.specs.declared.class.Class.TheVariants as class
 use Rattle.erd_tables.specs.declared.member.MemberKind.TheVariants as kind
 use Rattle.erd_check.specs.Faults.{is_array, is_empty_array, is_object}
 use Rattle.erd_check.specs.Wants.{want_of_name}
@@ -158,3 +160,36 @@ may_lack s name = false
 -- Lists without an entry, where none has to stand.
 abbrev pub is_empty_list : Scope → List ℕ → Data → Bool
 is_empty_list s name d = is_empty_array d && may_lack s name
+
+-- ---- what a comparison may pass over
+
+-- The members of an object of the class that no ballot shows, but for its identifiers. None of them is required.
+-- docs/PROFILE.md ("What a voter sees") has them as unseen.
+abbrev pub is_unseen_name : Class → List ℕ → Bool
+is_unseen_name class.ReportingUnit name =
+    bytes_eq name (codes "AuthorityIds") || (bytes_eq name (codes "IsDistricted") || bytes_eq name (codes "IsMailOnly"))
+is_unseen_name class.Party name = bytes_eq name (codes "LeaderPersonIds") || bytes_eq name (codes "PartyScopeGpUnitIds")
+is_unseen_name class.Coalition name = bytes_eq name (codes "LeaderPersonIds") || bytes_eq name (codes "PartyScopeGpUnitIds")
+is_unseen_name class.Office name = bytes_eq name (codes "OfficeHolderPersonIds")
+is_unseen_name class.Candidate name = bytes_eq name (codes "FileDate")
+is_unseen_name class.CandidateContest name = bytes_eq name (codes "NumberRunoff")
+is_unseen_name c name = false
+
+-- Members that no ballot shows.
+abbrev pub is_unseen : Scope → List ℕ → Data → Bool
+is_unseen (scope.Members r (Some c)) name d = is_unseen_name c name
+is_unseen s name d = false
+
+-- True for a member with a truth value.
+abbrev pub is_flag : Option Want → Bool
+is_flag (Some (Member kind.Flag required)) = true
+is_flag w = false
+
+-- True for the value `false`.
+abbrev pub is_false : Data → Bool
+is_false (boolean b) = not b
+is_false d = false
+
+-- Truth values that are false, where none has to stand.
+abbrev pub is_false_flag : Scope → List ℕ → Data → Bool
+is_false_flag s name d = is_flag (want_of_name s name) && (not (is_required_in s name) && is_false d)

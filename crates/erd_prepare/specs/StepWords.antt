@@ -26,6 +26,9 @@ name_of_step step.StrayIds = codes "stray-ids"
 name_of_step step.VendorIdentifiers = codes "vendor-identifiers"
 name_of_step step.VendorTexts = codes "vendor-texts"
 name_of_step step.Repeated = codes "repeated"
+name_of_step step.Unseen = codes "unseen"
+name_of_step step.FalseFlags = codes "false-flags"
+name_of_step step.OtherCodes = codes "other-codes"
 name_of_step step.GoneCandidates = codes "gone-candidates"
 name_of_step step.UnusedStyles = codes "unused-styles"
 name_of_step step.UnusedPersons = codes "unused-persons"
@@ -56,6 +59,9 @@ group_of step.StrayIds = group.Removed
 group_of step.VendorIdentifiers = group.FilledIn
 group_of step.VendorTexts = group.FilledIn
 group_of step.Repeated = group.FilledIn
+group_of step.Unseen = group.View
+group_of step.FalseFlags = group.View
+group_of step.OtherCodes = group.View
 group_of step.GoneCandidates = group.Visible
 group_of step.UnusedStyles = group.Visible
 group_of step.UnusedPersons = group.Removed
@@ -75,11 +81,13 @@ abbrev pub name_of_group : StepGroup → List ℕ
 name_of_group group.Removed = codes "removed"
 name_of_group group.FilledIn = codes "filled-in"
 name_of_group group.Visible = codes "visible"
+name_of_group group.View = codes "view"
 
 abbrev pub is_same_group : StepGroup → StepGroup → Bool
 is_same_group group.Removed group.Removed = true
 is_same_group group.FilledIn group.FilledIn = true
 is_same_group group.Visible group.Visible = true
+is_same_group group.View group.View = true
 is_same_group g h = false
 
 -- The steps of a group, in the order in which they are done.
@@ -92,7 +100,7 @@ step_named word = find (λ s. bytes_eq (name_of_step s) word) STEPS
 
 -- The group of this name, if there is one.
 abbrev pub group_named : List ℕ → Option StepGroup
-group_named word = find (λ g. bytes_eq (name_of_group g) word) (group.Removed ∷ group.FilledIn ∷ group.Visible ∷ [])
+group_named word = find (λ g. bytes_eq (name_of_group g) word) (group.Removed ∷ group.FilledIn ∷ group.Visible ∷ group.View ∷ [])
 
 -- The steps that one word chooses: the step of this name, or the steps of the group of this name. A word that is neither chooses
 -- nothing.

@@ -6,8 +6,9 @@ ghost use Rattle.erd_prepare.specs.Kinds.{is_list_of_objects, is_object_wanted, 
 ghost use Rattle.erd_prepare.specs.Steps.{IsStepDone};
 
 use crate::asked::{entry_in, scope_in};
-use crate::engine::{Done, place_of, prepare};
+use crate::engine::{Done, prepare};
 use crate::mender::Mender;
+use crate::path_places::place_of;
 use crate::plan::{Edit, Plan};
 use erd_check::path::Path;
 use erd_check::want::{Scope, Want, want_in};

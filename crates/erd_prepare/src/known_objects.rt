@@ -1,5 +1,5 @@
 //! The objects of a report that the member table knows.
-use crate::engine::place_of;
+use crate::path_places::place_of;
 use erd_check::path::Path;
 use erd_check::want::{Scope, Want, scope_of, want_in, want_of_entry};
 use erd_tables::class::{Class, Role};

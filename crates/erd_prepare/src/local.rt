@@ -10,6 +10,7 @@ ghost use Rattle.erd_check.specs.declared.want.Want.TheVariants.{Object};
 ghost use Rattle.erd_prepare.specs.Local.{counts_nothing, dropping, is_coordinate, is_count_name, is_empty_label, is_empty_list, is_zero, is_zero_count};
 ghost use Rattle.erd_prepare.specs.Local.{items_count_nothing, may_lack, member_counts_nothing, members_count_nothing, is_label, is_off_ballot};
 ghost use Rattle.erd_prepare.specs.Local.{is_off_ballot_name, is_outside_member, is_required_in, is_stray_id, is_stray_identity};
+ghost use Rattle.erd_prepare.specs.Local.{is_false, is_false_flag, is_flag, is_unseen, is_unseen_name};
 ghost use Rattle.erd_prepare.specs.Changes.{told_by};
 ghost use Rattle.erd_prepare.specs.Rules.{prepared, told};
 
@@ -20,6 +21,7 @@ use crate::mender::Mender;
 use erd_check::path::Path;
 use erd_check::values::is_empty_array;
 use erd_check::want::{Scope, Want, want_in};
+use erd_tables::class::Class;
 use erd_tables::member::{MemberKind, is_required_member};
 use serde_json::{Map, Value};
 use std::alloc::{AllocError, Global};
@@ -39,6 +41,10 @@ pub enum Local {
     Counts,
     /// Lists without an entry that may be absent.
     EmptyLists,
+    /// Members that no ballot shows and that may be absent.
+    Unseen,
+    /// Truth values that are false and that may be absent.
+    FalseFlags,
 }
 
 /// Leaves out the members.
@@ -94,6 +100,8 @@ impl Mender for Local {
             Local::StrayIds => is_stray_id(scope, name, value),
             Local::Counts => is_zero_count(scope, name, value),
             Local::EmptyLists => is_empty_list(scope, name, value),
+            Local::Unseen => is_unseen(scope, name, value),
+            Local::FalseFlags => is_false_flag(scope, name, value),
         })
     }
 
@@ -203,6 +211,54 @@ fn may_lack(scope: Scope, name: &str) -> bool
         Scope::Members(_, Some(class)) => !is_required_member(class, name),
         Scope::Carried => true,
         _ => false,
+    }
+}
+
+fn is_unseen(scope: Scope, name: &str, _value: &Value) -> bool
+    ensures { result ≡ is_unseen scope name.now (view _value.now) }
+{
+    match scope {
+        Scope::Members(_, Some(class)) => is_unseen_name(class, name),
+        _ => false,
+    }
+}
+
+fn is_unseen_name(class: Class, name: &str) -> bool
+    ensures { result ≡ is_unseen_name class name.now }
+{
+    match class {
+        Class::ReportingUnit => {
+            name == "AuthorityIds" || name == "IsDistricted" || name == "IsMailOnly"
+        }
+        Class::Party | Class::Coalition => {
+            name == "LeaderPersonIds" || name == "PartyScopeGpUnitIds"
+        }
+        Class::Office => name == "OfficeHolderPersonIds",
+        Class::Candidate => name == "FileDate",
+        Class::CandidateContest => name == "NumberRunoff",
+        _ => false,
+    }
+}
+
+fn is_false_flag(scope: Scope, name: &str, value: &Value) -> bool
+    ensures { result ≡ is_false_flag scope name.now (view value.now) }
+{
+    is_flag(want_in(scope, name)) && !is_required_in(scope, name) && is_false(value)
+}
+
+fn is_flag(want: Option<Want>) -> bool
+    ensures { result ≡ is_flag want }
+{
+    matches!(want, Some(Want::Member(MemberKind::Flag, _)))
+}
+
+fn is_false(value: &Value) -> bool
+    ensures { result ≡ is_false (view value.now) }
+{
+    match value {
+        Value::Bool(is_true) => !*is_true,
+        Value::Null | Value::Number(_) | Value::String(_) | Value::Array(_) | Value::Object(_) =>
+            false,
     }
 }
 

@@ -12,8 +12,9 @@ ghost use Rattle.erd_prepare.specs.Plans.{has_role, is_left_out, is_listed, memb
 ghost use Rattle.erd_prepare.specs.Rules.{prepared, seen, told};
 
 use crate::asked::scope_in;
-use crate::engine::{Done, place_of, prepare};
+use crate::engine::{Done, prepare};
 use crate::mender::Mender;
+use crate::path_places::place_of;
 use erd_check::path::Path;
 use erd_check::want::{Scope, Want};
 use erd_tables::member::MemberKind;

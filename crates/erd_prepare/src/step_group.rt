@@ -15,6 +15,8 @@ pub enum StepGroup {
     FilledIn,
     /// A voter sees another ballot.
     Visible,
+    /// It leaves out what a comparison is to pass over, though files may well differ in it.
+    View,
 }
 
 impl StepGroup {
@@ -26,6 +28,7 @@ impl StepGroup {
             "removed" => Some(StepGroup::Removed),
             "filled-in" => Some(StepGroup::FilledIn),
             "visible" => Some(StepGroup::Visible),
+            "view" => Some(StepGroup::View),
             _ => None,
         }
     }
@@ -38,6 +41,7 @@ impl StepGroup {
             StepGroup::Removed => "removed",
             StepGroup::FilledIn => "filled-in",
             StepGroup::Visible => "visible",
+            StepGroup::View => "view",
         }
     }
 
@@ -79,6 +83,7 @@ impl StepGroup {
             | StepName::WriteInLines
             | StepName::PartyLines => StepGroup::FilledIn,
             StepName::GoneCandidates | StepName::UnusedStyles => StepGroup::Visible,
+            StepName::Unseen | StepName::FalseFlags | StepName::OtherCodes => StepGroup::View,
         }
     }
 }

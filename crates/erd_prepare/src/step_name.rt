@@ -15,6 +15,7 @@ use crate::kinds::write_kinds;
 use crate::left_behind::{name_all, take_out_counts, take_out_empty_texts};
 use crate::local::{Local, take_out};
 use crate::nulls::take_out_nulls;
+use crate::other_codes::take_out_other_codes;
 use crate::party_lines::name_party_lines;
 use crate::persons::take_out_unused_persons;
 use crate::repeated::take_out_repeated;
@@ -61,6 +62,12 @@ pub enum StepName {
     VendorTexts,
     /// Takes out entries that a set has twice.
     Repeated,
+    /// Takes out members that no ballot shows.
+    Unseen,
+    /// Takes out truth values that are false.
+    FalseFlags,
+    /// Takes out identifiers of the type `other`, where an object has one of another type.
+    OtherCodes,
     /// Takes out lines of candidates who are gone. A voter no longer sees them.
     GoneCandidates,
     /// Takes out ballot styles of no unit.
@@ -90,7 +97,7 @@ pub enum StepName {
 }
 
 /// The steps, in the order in which they are done.
-pub const STEPS: [StepName; 27] = [
+pub const STEPS: [StepName; 30] = [
     StepName::ClassNames,
     StepName::Nulls,
     StepName::Kinds,
@@ -105,6 +112,9 @@ pub const STEPS: [StepName; 27] = [
     StepName::VendorIdentifiers,
     StepName::VendorTexts,
     StepName::Repeated,
+    StepName::Unseen,
+    StepName::FalseFlags,
+    StepName::OtherCodes,
     StepName::GoneCandidates,
     StepName::UnusedStyles,
     StepName::UnusedPersons,
@@ -159,6 +169,9 @@ impl StepName {
             StepName::VendorIdentifiers => "vendor-identifiers",
             StepName::VendorTexts => "vendor-texts",
             StepName::Repeated => "repeated",
+            StepName::Unseen => "unseen",
+            StepName::FalseFlags => "false-flags",
+            StepName::OtherCodes => "other-codes",
             StepName::GoneCandidates => "gone-candidates",
             StepName::UnusedStyles => "unused-styles",
             StepName::UnusedPersons => "unused-persons",
@@ -200,6 +213,9 @@ pub fn do_step(alloc: Global, step: StepName, report: &Value) -> Result<Done, Al
         StepName::VendorIdentifiers => take_vendor_identifiers(alloc, report),
         StepName::VendorTexts => rename_vendor_members(alloc, report),
         StepName::Repeated => take_out_repeated(alloc, report),
+        StepName::Unseen => take_out(alloc, Local::Unseen, report),
+        StepName::FalseFlags => take_out(alloc, Local::FalseFlags, report),
+        StepName::OtherCodes => take_out_other_codes(alloc, report),
         StepName::GoneCandidates => take_out_gone_candidates(alloc, report),
         StepName::UnusedStyles => take_out_unused_styles(alloc, report),
         StepName::UnusedPersons => take_out_unused_persons(alloc, report),

@@ -3,9 +3,10 @@ ghost use Rattle.std.specs.Prelude.{◌≡◌, [], Some, IfOk};
 ghost use Rattle.serde_json.specs.View.{view};
 ghost use Rattle.erd_prepare.specs.Steps.{IsStepDone};
 
-use crate::engine::{Done, place_of};
+use crate::engine::Done;
 use crate::known_objects::{KnownObject, known_objects};
 use crate::left::{LeftReason, Planned, carry_out_planned};
+use crate::path_places::place_of;
 use crate::plan::Edit;
 use crate::vendor_members::{ids_of, is_vendor_reference, place_of_member};
 use erd_check::path::Path;

@@ -27,6 +27,9 @@ a_group = refl
 in_their_order : steps_of_group group.Visible ≡ step.GoneCandidates ∷ step.UnusedStyles ∷ []
 in_their_order = refl
 
+views : steps_chosen (codes "view") ≡ Some (step.Unseen ∷ step.FalseFlags ∷ step.OtherCodes ∷ [])
+views = refl
+
 filled_in : group_of step.Codes ≡ group.FilledIn
 filled_in = refl
 

@@ -227,7 +227,12 @@ fn words_choose_steps(rt: HostRuntime) -> Result<(), Fail> {
 
 #[test]
 fn groups_have_names(rt: HostRuntime) {
-    for group in [StepGroup::Removed, StepGroup::FilledIn, StepGroup::Visible] {
+    for group in [
+        StepGroup::Removed,
+        StepGroup::FilledIn,
+        StepGroup::Visible,
+        StepGroup::View,
+    ] {
         assert!(rt; StepGroup::named(group.text()) == Some(group));
     }
 }

@@ -127,6 +127,48 @@ pub const CASES: &[Case] = &[
         "/Party/0/ChairId namesObject;/Party/0/Contact/BuildingIds/1/OwnerId namesObject;/Party/0/OwnerId nameTaken;",
     ),
     (
+        StepName::Unseen,
+        concat!(
+            r#"{"@type":"%ElectionReport","GpUnit":[{"@type":"%ReportingUnit","AuthorityIds":["p"],"IsDistricted":true,"IsMailOnly":true,"#,
+            r#""Number":"1"}],"Office":[{"@type":"%Office","FileDate":"d","OfficeHolderPersonIds":["p"]}],"Party":[{"@type":"%Party","#,
+            r#""LeaderPersonIds":["p"],"PartyScopeGpUnitIds":["u"]},{"@type":"%Coalition","LeaderPersonIds":["p"],"#,
+            r#""PartyScopeGpUnitIds":["u"]}],"Election":[{"@type":"%Election","Candidate":[{"@type":"%Candidate","FileDate":"d"}],"#,
+            r#""Contest":[{"@type":"%CandidateContest","NumberRunoff":2},{"@type":"%PartyContest","NumberRunoff":2}]}]}"#,
+        ),
+        concat!(
+            r#"{"@type":"%ElectionReport","GpUnit":[{"@type":"%ReportingUnit","Number":"1"}],"Office":[{"@type":"%Office","FileDate":"d"}],"#,
+            r#""Party":[{"@type":"%Party"},{"@type":"%Coalition"}],"Election":[{"@type":"%Election","Candidate":[{"@type":"%Candidate"}],"#,
+            r#""Contest":[{"@type":"%CandidateContest"},{"@type":"%PartyContest","NumberRunoff":2}]}]}"#,
+        ),
+        "",
+    ),
+    (
+        StepName::FalseFlags,
+        concat!(
+            r#"{"@type":"%ElectionReport","IsTest":false,"GpUnit":[{"@type":"%ReportingUnit","IsDistricted":false,"IsMailOnly":true,"#,
+            r#""IsOpen":false,"Number":false}]}"#,
+        ),
+        concat!(
+            r#"{"@type":"%ElectionReport","GpUnit":[{"@type":"%ReportingUnit","IsMailOnly":true,"IsOpen":false,"Number":false}]}"#,
+        ),
+        "",
+    ),
+    (
+        StepName::OtherCodes,
+        concat!(
+            r#"{"@type":"%ElectionReport","GpUnit":[{"@type":"%ReportingUnit","ExternalIdentifier":["#,
+            r#"{"Type":"other","OtherType":"a","Value":"1"},{"Type":"fips","Value":"2"},{"Type":"other","Value":"3"}]},"#,
+            r#"{"@type":"%ReportingUnit","ExternalIdentifier":[{"Type":"other","Value":"1"},{"Type":"other","Value":"2"}]},"#,
+            r#"{"@type":"%ReportingUnit","ExternalIdentifier":[{"Type":"other","Value":"1"},{"Type":"fips"}]}]}"#,
+        ),
+        concat!(
+            r#"{"@type":"%ElectionReport","GpUnit":[{"@type":"%ReportingUnit","ExternalIdentifier":[{"Type":"fips","Value":"2"}]},"#,
+            r#"{"@type":"%ReportingUnit","ExternalIdentifier":[{"Type":"other","Value":"1"},{"Type":"other","Value":"2"}]},"#,
+            r#"{"@type":"%ReportingUnit","ExternalIdentifier":[{"Type":"other","Value":"1"},{"Type":"fips"}]}]}"#,
+        ),
+        "",
+    ),
+    (
         StepName::GoneCandidates,
         concat!(
             r#"{"@type":"%ElectionReport","Election":[{"@type":"%Election","Candidate":[{"@type":"%Candidate","@id":"k"}],"#,

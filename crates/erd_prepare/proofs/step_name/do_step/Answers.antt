@@ -62,6 +62,20 @@ returns-in-StrayIds c =
           c.take_out-in-StrayIds.ensures.tree c.take_out-in-StrayIds.ensures.changes;
     }
 
+pub returns-in-Unseen : goal.returns-in-Unseen
+returns-in-Unseen c =
+    record {
+      done = by_own_rule _ step.Unseen (view c.args.report.now) _ (dropping (dropped_by local.Unseen)) c.in-Unseen.is refl
+          c.take_out-in-Unseen.ensures.tree c.take_out-in-Unseen.ensures.changes;
+    }
+
+pub returns-in-FalseFlags : goal.returns-in-FalseFlags
+returns-in-FalseFlags c =
+    record {
+      done = by_own_rule _ step.FalseFlags (view c.args.report.now) _ (dropping (dropped_by local.FalseFlags)) c.in-FalseFlags.is refl
+          c.take_out-in-FalseFlags.ensures.tree c.take_out-in-FalseFlags.ensures.changes;
+    }
+
 pub returns-in-UnusedStyles : goal.returns-in-UnusedStyles
 returns-in-UnusedStyles c =
     record {
@@ -132,6 +146,13 @@ returns-in-VendorTexts c =
 pub returns-in-Repeated : goal.returns-in-Repeated
 returns-in-Repeated c =
     record { done = by_some_rule _ step.Repeated (view c.args.report.now) c.take_out_repeated.result c.in-Repeated.is refl c.take_out_repeated.ensures.done }
+
+pub returns-in-OtherCodes : goal.returns-in-OtherCodes
+returns-in-OtherCodes c =
+    record {
+      done = by_some_rule _ step.OtherCodes (view c.args.report.now) c.take_out_other_codes.result c.in-OtherCodes.is refl
+          c.take_out_other_codes.ensures.done;
+    }
 
 pub returns-in-GoneCandidates : goal.returns-in-GoneCandidates
 returns-in-GoneCandidates c =
