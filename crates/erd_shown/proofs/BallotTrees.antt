@@ -79,7 +79,7 @@ module _ (π : Preference) (t : Data) where
   placed_sound None = (tt, tt)
   placed_sound (Some o) = keyed_sound _ o.value
 
-  ballot_sound : (i : ℕ) → IsSound (ballot_in π t i)
+  pub ballot_sound : (i : ℕ) → IsSound (ballot_in π t i)
   ballot_sound i = placed_sound (slice_get (objects family.Style t) i)
 
 same_values : (a b : Data) → IsSound a → IsSound b → bytes_eq (compact_text a) (compact_text b) ≡ is_same_json a b

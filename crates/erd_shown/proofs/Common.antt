@@ -94,8 +94,8 @@ pub use Rattle.erd_meaning.proofs.examples.RecordExamples.{local_key, members_of
 pub use Rattle.erd_meaning.proofs.finding.OneObject.{at_low, with_part, one_id}
 pub use Rattle.erd_meaning.proofs.meanings.SelectionKinds.{kind_of_type, is_selections, selections_kind, selections_name, selections_family, class_role}
 pub use Rattle.erd_meaning.proofs.meanings.WholeMeanings.{same_meaning}
-pub use Rattle.erd_meaning.proofs.orders.DistinctEntries.{options_exact, equal_keys, equal_names, distinct_from_one_place, distinct_map, distinct_one}
-pub use Rattle.erd_meaning.proofs.orders.DistinctEntries.{unrepeated_distinct, unrepeated_by_cmp}
+pub use Rattle.erd_meaning.proofs.rising.DistinctEntries.{options_exact, equal_keys, equal_names, distinct_from_one_place, distinct_map, distinct_one}
+pub use Rattle.erd_meaning.proofs.rising.DistinctEntries.{unrepeated_distinct, unrepeated_by_cmp}
 pub use Rattle.erd_text.proofs.RisingOrders.{two_exchanged, reordered-In, reordered_flat, reordered_rising, whole-reordered, count-reordered, all-reordered}
 pub use Rattle.erd_text.proofs.RisingOrders.{along_permutation, reordered_kept, greater_turned, inserted_exchange, all_rising, NeverFalls, rising_strictly}
 pub use Rattle.erd_text.proofs.RisingOrders.{rising_never_falls, rank_map, rank_by_at, length-rising, In-inserted, In-rising, compact_cmp_total}

@@ -3,7 +3,7 @@ use Rattle.erd_shown.proofs.Common.{◌≡◌, ℕ, ◌+◌, ◌<◌, ◌^◌, �
 use Rattle.erd_shown.proofs.Common.{option_and_then, sym, refl, ap, ◌∙◌, slice_get-map, slice_get_within, length-map, and_then-Some, option_map-Some, in_at}
 use Rattle.erd_shown.proofs.Common.{In-all, Data, [], arith, entries_at, Family, family, family_number, has_keys, Preference, key_of, key_in, key_named}
 use Rattle.erd_shown.proofs.Common.{name_named, name_of, FindsId, Placed, objects, contests, selections_of_contest, numbered_selections, IsBounded}
-use Rattle.erd_shown.proofs.Common.{values-placed_entries, IsAccepted, IsTree, HasFittingNumbers, NameParts}
+use Rattle.erd_shown.proofs.Common.{values-placed_entries, IsAccepted, IsTree, HasFittingNumbers, NameParts, Decides-eqb}
 use Rattle.erd_meaning.specs.Lookups.{selections_before}
 use Rattle.erd_meaning.specs.code.SelectionWalk.{if_of_contest}
 use Rattle.erd_meaning.proofs.finding.OneObject.{owner_elsewhere, owner_here, owner_nowhere}
@@ -74,12 +74,25 @@ module _ (π : Preference) (t : Data) (accepted : IsAccepted π t) (tree : IsTre
   abbrev start : ℕ
   start = selections_before t c
 
-  of_contest : (x : Numbered) (o : Placed) → if_of_contest c x ≡ Some o → x.1 ≡ o
-  of_contest x o e = at (x.0 == c) e
+  of_contest : (x : Numbered) (o : Placed) → if_of_contest c x ≡ Some o → (x.0 ≡ c) × (x.1 ≡ o)
+  of_contest x o e = at (x.0 == c) refl e
     where
-      at : (b : Bool) → cond b (Some x.1) None ≡ Some o → x.1 ≡ o
-      at true e = cc
-      at false e = cc
+      at : (b : Bool) → (x.0 == c) ≡ b → cond b (Some x.1) None ≡ Some o → (x.0 ≡ c) × (x.1 ≡ o)
+      at true is e = let same : x.1 ≡ o = cc in ((Decides-eqb x.0 c).0 is, same)
+      at false is e = let clash : None ≡ Some o = e in absurd (cc clash)
+
+  -- where a selection of the contest stands in the report
+  pub standing : (j : ℕ) (d : Data) → slice_get inside j ≡ Some d → (x : Numbered) × (slice_get (numbered_selections t) (start + j) ≡ Some x) × (x.0 ≡ c)
+      × (x.1.value ≡ d)
+  standing j d e =
+      let o = option_map-Some (λ (o : Placed). o.value) (slice_get (selections_of_contest contest) j) d
+      (sym (slice_get-map (λ (o : Placed). o.value) (selections_of_contest contest) j)
+      ∙ ap (λ xs. slice_get xs j) (values-placed_entries (codes "ContestSelection") contest) ∙ e) in
+      let stands : option_and_then (if_of_contest c) (slice_get (numbered_selections t) (start + j)) ≡ Some o.0 =
+      stand_from_start t c start refl j ∙ ap (option_and_then (λ (o : Placed). slice_get (selections_of_contest o) j)) there ∙ o.1 in
+      let x = and_then-Some (if_of_contest c) (slice_get (numbered_selections t) (start + j)) o.0 stands in
+      let one = of_contest x.0 o.0 x.2 in
+      (x.0, x.1, one.0, ap (λ (o : Placed). o.value) one.1 ∙ o.2)
 
   counted : length {A = Numbered} (numbered_selections t) ≡ length (objects family.Selection t)
   counted = sym (length-map {A = Numbered} (numbered_selections t) (λ s. s.1)) ∙ ap length (placed_of_contests 0 (contests t))
@@ -90,18 +103,13 @@ module _ (π : Preference) (t : Data) (accepted : IsAccepted π t) (tree : IsTre
       named : (j : ℕ) (d : Data) → slice_get inside j ≡ Some d → (n : NameParts) × (name_in π t (start + j) ≡ Some n)
           × (name_of π t d ≡ Some n) × (start + j < 2 ^ 64)
       named j d e =
-          let o = option_map-Some (λ (o : Placed). o.value) (slice_get (selections_of_contest contest) j) d
-          (sym (slice_get-map (λ (o : Placed). o.value) (selections_of_contest contest) j)
-          ∙ ap (λ xs. slice_get xs j) (values-placed_entries (codes "ContestSelection") contest) ∙ e) in
-          let stands : option_and_then (if_of_contest c) (slice_get (numbered_selections t) (start + j)) ≡ Some o.0 =
-          stand_from_start t c start refl j ∙ ap (option_and_then (λ (o : Placed). slice_get (selections_of_contest o) j)) there ∙ o.1 in
-          let x = and_then-Some (if_of_contest c) (slice_get (numbered_selections t) (start + j)) o.0 stands in
+          let x = standing j d e in
           let s : IsSelection π t d = In-all (IsSelection π t) d inside (selections_fit π t accepted tree fits contest (in_at (contests t) c contest there)).0
           (in_at inside j d e) in
-          let value : x.0.1.value ≡ d = ap (λ (o : Placed). o.value) (of_contest x.0 o.0 x.2) ∙ o.2 in
           let name : name_in π t (start + j) ≡ name_of π t d =
           name_kept π t [] (slice_get (numbered_selections t) (start + j))
-          ∙ ap (λ (y : Option Numbered). option_and_then (name_of π t) (values_of (option_map (λ (s : Numbered). s.1) y))) x.1 ∙ ap (name_of π t) value in
+          ∙ ap (λ (y : Option Numbered). option_and_then (name_of π t) (values_of (option_map (λ (s : Numbered). s.1) y))) x.1
+          ∙ ap (name_of π t) x.3 in
           let low : start + j < length {A = Numbered} (numbered_selections t) = slice_get_within (numbered_selections t) (start + j) x.0 x.1 in
           let few : length (objects family.Selection t) < 2 ^ 64 = bounded.few family.Selection in
           let same = counted in

@@ -12,13 +12,13 @@ key_in_place π t f keyed o i at =
     ap (option_and_then (λ (o : Placed). cond (has_keys f) (key_of π o.value) None)) at ∙ ap (λ b. cond b (key_of π o.value) None) keyed
 
 -- the test that finds the object with a key
-abbrev has_this_key : Preference → Key → Placed → Bool
+abbrev pub has_this_key : Preference → Key → Placed → Bool
 has_this_key π k o = is_eq (option_cmp key_cmp (key_of π o.value) (Some k))
 
-key_itself : (π : Preference) (k : Key) (o : Placed) → key_of π o.value ≡ Some k → has_this_key π k o ≡ true
+pub key_itself : (π : Preference) (k : Key) (o : Placed) → key_of π o.value ≡ Some k → has_this_key π k o ≡ true
 key_itself π k o e = ap (λ x. is_eq (option_cmp key_cmp x (Some k))) e ∙ ap is_eq (tied_itself key_cmp_total k)
 
-key_told : (π : Preference) (k : Key) (o : Placed) → has_this_key π k o ≡ true → key_of π o.value ≡ Some k
+pub key_told : (π : Preference) (k : Key) (o : Placed) → has_this_key π k o ≡ true → key_of π o.value ≡ Some k
 key_told π k o h = at (key_of π o.value) refl h
   where
     at : (x : Option Key) → key_of π o.value ≡ x → is_eq (option_cmp key_cmp (key_of π o.value) (Some k)) ≡ true → key_of π o.value ≡ Some k

@@ -7,12 +7,16 @@ mod Found
 mod Placed
 mod KeysFound
 mod ElectionsFound
+mod SelectionsFound
 mod EmptyArrays
 mod MarkLists
 mod Written
 mod SelectionPairs
+mod WordedPairs
+mod WordedObjects
 mod LineNodes
 mod PartnerLists
+mod NumberLists
 mod Things
 mod RowLists
 mod RowPlaces
@@ -25,3 +29,4 @@ mod NameLists
 mod MembersWritten
 mod BallotTrees
 mod LineLaws
+mod alike

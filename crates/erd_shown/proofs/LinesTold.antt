@@ -5,7 +5,7 @@ use Rattle.erd_shown.proofs.Common.{key_of, entries_at, codes, compact_text, ite
 use Rattle.erd_shown.proofs.Common.{name_cmp, name_cmp_total, equal_keys, equal_names, eq_by_cmp, option_cmp, NameParts, flat_map, list_any, slice_get-map}
 use Rattle.erd_shown.proofs.Common.{option_map, object, member, no_members, boolean, items_of, options_total, IsTotalOrder, true≢false, Decides-eqb}
 use Rattle.erd_shown.proofs.Common.{Ordering, Less, Equal, Greater, ordering_reverse, length-map, rising_list, Data, Preference, Key, Family, family}
-use Rattle.erd_shown.proofs.Common.{NeverFalls, rising_never_falls, ItemsHaveFittingNumbers, text_at, filter_map, name_of}
+use Rattle.erd_shown.proofs.Common.{NeverFalls, rising_never_falls, ItemsHaveFittingNumbers, filter_map, name_of}
 use Rattle.std.specs.Bool.{beq}
 use Rattle.std.specs.Cmp.{IsEquivalence}
 use Rattle.std.specs.Ordering.{bool_cmp, ordering_then}
@@ -17,7 +17,7 @@ use Rattle.erd_shown.specs.BallotLines.{has_same_voters, has_same_keys, selectio
 use Rattle.erd_shown.specs.BallotWords.{printed_selections, selection_words}
 use Rattle.erd_shown.specs.Ballots.{line_data, lines_data, lines_of, thing_at, what_members}
 use Rattle.erd_shown.specs.KeyData.{array_of, shown_key, shown_key_or_null, shown_name, shown_whole}
-use Rattle.erd_shown.specs.ListedNames.{listed_at, lists_selections, names_in_order, names_named, names_on, selections_named, sorted_names}
+use Rattle.erd_shown.specs.ListedNames.{listed_at, lists_selections, names_in_order, names_named, names_on, selections_on, sorted_names}
 use Rattle.erd_shown.specs.Partners.{partners}
 use Rattle.erd_shown.specs.Reworded.{is_line_reworded, is_reworded, true_of_any_named}
 use Rattle.erd_shown.specs.RowData.{thing_cmp, things_of}
@@ -106,7 +106,7 @@ beq_exact false true e = cc
 -- the names of a contest whose selections a ballot does not list are in rising order
 names_sorted : (π : Preference) (t d : Data) → lists_selections d ≡ false → rising_list name_cmp (names_on π t d) ≡ names_on π t d
 names_sorted π t d none =
-    let all = selections_named t (text_at (codes "ContestId") d) in
+    let all = selections_on t d in
     let sorted : names_on π t d ≡ sorted_names π t all = ap (λ x. cond x (names_named π t (listed_at d)) (sorted_names π t all)) none in
     ap (rising_list name_cmp) sorted ∙ risen name_cmp name_cmp_total (sorted_names π t all)
     (rising_never_falls name_cmp_total (filter_map (name_of π t) all)) ∙ sym sorted
@@ -176,12 +176,12 @@ AreOneLine π t ρ u l r =
     (line_data π t l ≡ line_data ρ u r)
     × (compact_text (selection_words π t l.1) ≡ compact_text (selection_words ρ u r.1)) × (is_line_reworded π t ρ u l.1 ≡ false)
 
-abbrev line_with : ℕ → Bool → List NameParts → Bool × Option Key → Data
+abbrev pub line_with : ℕ → Bool → List NameParts → Bool × Option Key → Data
 line_with depth listed names thing =
     object (member (codes "depth") (shown_whole (pos depth)) (member (codes "listed") (boolean listed)
     (member (codes "selections") (array_of (map (λ n. shown_name (Some n)) names)) (what_members thing))))
 
-not_so : (b : Bool) → not b ≡ true → b ≡ false
+pub not_so : (b : Bool) → not b ≡ true → b ≡ false
 not_so false e = refl
 not_so true e = cc
 

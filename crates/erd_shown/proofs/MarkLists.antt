@@ -2,7 +2,6 @@
 use Rattle.erd_shown.proofs.Common.{◌≡◌, ℕ, ◌+◌, ◌<◌, ◌≤◌, Bool, true, false, cond, ◌||◌, List, [], ◌∷◌, ◌++◌, length, map, drop, slice_get, Some, None, Option}
 use Rattle.erd_shown.proofs.Common.{option_map, option_map_or, list_any, unwrap_or, sym, refl, ap, ◌∙◌, subst, append_assoc, append-nil}
 use Rattle.erd_shown.proofs.Common.{slice_get-map, length-map, at_low, drop_all, Data, Family, Placed, objects, owner}
-use Rattle.erd_shown.specs.Reworded.{true_of_named}
 use Rattle.erd_shown.specs.code.Marks.{marks_of}
 use Rattle.erd_shown.proofs.Written.{drop_there}
 
@@ -14,9 +13,10 @@ mark_there P f t i = ap (λ x. unwrap_or x false) (slice_get-map (λ (o : Placed
     at None = refl
     at (Some o) = refl
 
-pub named_there : (P : Data → Bool) (f : Family) (t : Data) (id : List ℕ) (marks : List Bool) (i : ℕ) (mark : Bool) → mark ≡ unwrap_or (slice_get marks i) false
-    → option_map (λ o. o.value) (slice_get (objects f t) i) ≡ owner t f id → marks ≡ marks_of P f t → mark ≡ true_of_named P t f id
-named_there P f t id marks i mark is there all =
+pub owner_marked : (P : Data → Bool) (f : Family) (t : Data) (id : List ℕ) (marks : List Bool) (i : ℕ) (mark : Bool)
+    → mark ≡ unwrap_or (slice_get marks i) false → option_map (λ o. o.value) (slice_get (objects f t) i) ≡ owner t f id → marks ≡ marks_of P f t
+    → mark ≡ option_map_or P (owner t f id) false
+owner_marked P f t id marks i mark is there all =
     is ∙ ap (λ ms. unwrap_or (slice_get ms i) false) all ∙ mark_there P f t i ∙ ap (λ o. option_map_or P o false) there
 
 -- one more mark

@@ -1,5 +1,5 @@
 -- Partners are each other's.
-use Rattle.erd_text.proofs.Common.{◌≡◌, ℕ, zero, suc, ◌+◌, ◌≤◌, Bool, true, false, cond, ◌&&◌, List, [], ◌∷◌, map, ◌==◌, Some, None, Option, option_map}
+use Rattle.erd_text.proofs.Common.{◌≡◌, ℕ, zero, suc, ◌+◌, ◌≤◌, Bool, true, false, cond, ◌&&◌, List, [], ◌∷◌, ◌==◌, Some, None, Option, option_map}
 use Rattle.erd_text.proofs.Common.{sym, refl, ap, ap₂, ◌∙◌, arith, slice_get, ne_eqb, and_parts, Decides-eqb}
 use Rattle.std.proofs.lemmas.Option.{slice_get-map}
 use Rattle.std.proofs.lemmas.Cmp.{nat_eq_equiv}
@@ -32,7 +32,7 @@ module _ {K : Type 0} (same : K → K → Bool) (laws : IsEquivalence same) wher
       ap₂ (λ o b. option_or o (cond b (Some i) None)) (none_later q (x ∷ before) xs (i + 1) (omega (arith, low, more))) (unlike x q before low)
 
   -- the occurrence that stands at a place is found there
-  found_at : (before xs : List K) (k i : ℕ) (p q : K × ℕ) → slice_get (occurrences_after same before xs) i ≡ Some p → is_same_occurrence same p q ≡ true
+  pub found_at : (before xs : List K) (k i : ℕ) (p q : K × ℕ) → slice_get (occurrences_after same before xs) i ≡ Some p → is_same_occurrence same p q ≡ true
       → place_from same k (occurrences_after same before xs) q ≡ Some (k + i)
   found_at before [] k zero p q e s = cc
   found_at before [] k (suc i) p q e s = cc
@@ -96,7 +96,7 @@ module _ {K : Type 0} (same : K → K → Bool) (laws : IsEquivalence same) wher
 
   -- ---- what partners are
 
-  first_of : (before xs : List K) (i : ℕ) (p : K × ℕ) → slice_get (occurrences_after same before xs) i ≡ Some p → slice_get xs i ≡ Some p.0
+  pub first_of : (before xs : List K) (i : ℕ) (p : K × ℕ) → slice_get (occurrences_after same before xs) i ≡ Some p → slice_get xs i ≡ Some p.0
   first_of before [] zero p e = cc
   first_of before [] (suc i) p e = cc
   first_of before (x ∷ xs) zero p e = let head : (x, times same x before) ≡ p = cc in ap (λ q. Some q.0) head

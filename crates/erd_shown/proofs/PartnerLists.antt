@@ -1,7 +1,9 @@
 -- Occurrences that are counted, and places that are put into a map.
 use Rattle.erd_text.proofs.Common.{◌≡◌, ℕ, suc, ◌+◌, ◌≤◌, Bool, true, false, cond, ◌&&◌, List, [], ◌∷◌, ◌++◌, map, length, drop, ◌==◌, Some, None, Option}
 use Rattle.erd_text.proofs.Common.{nat_cmp, is_eq, Ordering, Less, Equal, Greater, unwrap_or, sym, refl, ap, ◌∙◌, arith, append_assoc}
+use Rattle.std.specs.Bool.{⊤}
 use Rattle.std.specs.Cmp.{IsEquivalence, unsigned_tied}
+use Rattle.std.specs.List.{AllByRecursion}
 use Rattle.std.specs.Map.{lookup}
 use Rattle.std.specs.Option.{option_or}
 use Rattle.std.specs.Ordering.{eq_by_cmp, ordering_then}
@@ -96,33 +98,56 @@ map_next f xs i x old new all rest pushed before =
 
 -- ---- things that stand for others
 
-module _ {A B : Type 0} (f : A → B) (same : A → A → Bool) (alike : B → B → Bool) (agree : (x y : A) → same x y ≡ alike (f x) (f y)) where
+module _ {A B : Type 0} (has : A → Type 0) (f : A → B) (same : A → A → Bool) (alike : B → B → Bool)
+    (agree : (x y : A) → has x → has y → same x y ≡ alike (f x) (f y)) where
   abbrev stand_for : A × ℕ → B × ℕ
   stand_for p = (f p.0, p.1)
 
-  times_for : (x : A) (ys : List A) → times same x ys ≡ times alike (f x) (map f ys)
-  times_for x [] = refl
-  times_for x (y ∷ ys) = ap (λ b. cond b (suc (times same x ys)) (times same x ys)) (agree x y) ∙ ap (λ n. cond (alike (f x) (f y)) (suc n) n) (times_for x ys)
+  abbrev Counted : A × ℕ → Type 0
+  Counted p = has p.0
 
-  occurrences_for : (before xs : List A) → map stand_for (occurrences_after same before xs) ≡ occurrences_after alike (map f before) (map f xs)
-  occurrences_for before [] = refl
-  occurrences_for before (x ∷ xs) =
-      ap (λ n. (f x, n) ∷ map stand_for (occurrences_after same (x ∷ before) xs)) (times_for x before)
-      ∙ ap (λ ps. (f x, times alike (f x) (map f before)) ∷ ps) (occurrences_for (x ∷ before) xs)
+  times_for : (x : A) (ys : List A) → has x → AllByRecursion has ys → times same x ys ≡ times alike (f x) (map f ys)
+  times_for x [] h all = refl
+  times_for x (y ∷ ys) h all =
+      ap (λ b. cond b (suc (times same x ys)) (times same x ys)) (agree x y h all.0)
+      ∙ ap (λ n. cond (alike (f x) (f y)) (suc n) n) (times_for x ys h all.1)
 
-  place_for : (i : ℕ) (qs : List (A × ℕ)) (p : A × ℕ) → place_from same i qs p ≡ place_from alike i (map stand_for qs) (stand_for p)
-  place_for i [] p = refl
-  place_for i (q ∷ qs) p =
-      ap (λ b. option_or (place_from same (i + 1) qs p) (cond (b && (q.1 == p.1)) (Some i) None)) (agree q.0 p.0)
-      ∙ ap (λ o. option_or o (cond (alike (f q.0) (f p.0) && (q.1 == p.1)) (Some i) None)) (place_for (i + 1) qs p)
+  occurrences_for : (before xs : List A) → AllByRecursion has before → AllByRecursion has xs
+      → map stand_for (occurrences_after same before xs) ≡ occurrences_after alike (map f before) (map f xs)
+  occurrences_for before [] stood all = refl
+  occurrences_for before (x ∷ xs) stood all =
+      ap (λ n. (f x, n) ∷ map stand_for (occurrences_after same (x ∷ before) xs)) (times_for x before all.0 stood)
+      ∙ ap (λ ps. (f x, times alike (f x) (map f before)) ∷ ps) (occurrences_for (x ∷ before) xs (all.0, stood) all.1)
 
-  places_for : (qs ps : List (A × ℕ)) → map (place_from same 0 qs) ps ≡ map (place_from alike 0 (map stand_for qs)) (map stand_for ps)
-  places_for qs [] = refl
-  places_for qs (p ∷ ps) = ap (λ o. o ∷ map (place_from same 0 qs) ps) (place_for 0 qs p)
-      ∙ ap (λ os. place_from alike 0 (map stand_for qs) (stand_for p) ∷ os) (places_for qs ps)
+  all_counted : (before xs : List A) → AllByRecursion has xs → AllByRecursion Counted (occurrences_after same before xs)
+  all_counted before [] all = tt
+  all_counted before (x ∷ xs) all = (all.0, all_counted (x ∷ before) xs all.1)
 
-  pub partners_for : (xs ys : List A) → partners same xs ys ≡ partners alike (map f xs) (map f ys)
-  partners_for xs ys =
-      places_for (occurrences same ys) (occurrences same xs)
-      ∙ ap (λ qs. map (place_from alike 0 qs) (map stand_for (occurrences same xs))) (occurrences_for [] ys)
-      ∙ ap (map (place_from alike 0 (occurrences alike (map f ys)))) (occurrences_for [] xs)
+  place_for : (i : ℕ) (qs : List (A × ℕ)) (p : A × ℕ) → AllByRecursion Counted qs → has p.0
+      → place_from same i qs p ≡ place_from alike i (map stand_for qs) (stand_for p)
+  place_for i [] p all h = refl
+  place_for i (q ∷ qs) p all h =
+      ap (λ b. option_or (place_from same (i + 1) qs p) (cond (b && (q.1 == p.1)) (Some i) None)) (agree q.0 p.0 all.0 h)
+      ∙ ap (λ o. option_or o (cond (alike (f q.0) (f p.0) && (q.1 == p.1)) (Some i) None)) (place_for (i + 1) qs p all.1 h)
+
+  places_for : (qs ps : List (A × ℕ)) → AllByRecursion Counted qs → AllByRecursion Counted ps
+      → map (place_from same 0 qs) ps ≡ map (place_from alike 0 (map stand_for qs)) (map stand_for ps)
+  places_for qs [] all these = refl
+  places_for qs (p ∷ ps) all these =
+      ap (λ o. o ∷ map (place_from same 0 qs) ps) (place_for 0 qs p all these.0)
+      ∙ ap (λ os. place_from alike 0 (map stand_for qs) (stand_for p) ∷ os) (places_for qs ps all these.1)
+
+  pub partners_within : (xs ys : List A) → AllByRecursion has xs → AllByRecursion has ys → partners same xs ys ≡ partners alike (map f xs) (map f ys)
+  partners_within xs ys ones others =
+      places_for (occurrences same ys) (occurrences same xs) (all_counted [] ys others) (all_counted [] xs ones)
+      ∙ ap (λ qs. map (place_from alike 0 qs) (map stand_for (occurrences same xs))) (occurrences_for [] ys tt others)
+      ∙ ap (map (place_from alike 0 (occurrences alike (map f ys)))) (occurrences_for [] xs tt ones)
+
+each_so : {A : Type 0} (xs : List A) → AllByRecursion (λ (x : A). ⊤) xs
+each_so [] = tt
+each_so (x ∷ xs) = (tt, each_so xs)
+
+-- the same where each thing may stand
+pub partners_for : {A B : Type 0} (f : A → B) (same : A → A → Bool) (alike : B → B → Bool) → ((x y : A) → same x y ≡ alike (f x) (f y)) → (xs ys : List A)
+    → partners same xs ys ≡ partners alike (map f xs) (map f ys)
+partners_for f same alike agree xs ys = partners_within (λ x. ⊤) f same alike (λ x y _ _. agree x y) xs ys (each_so xs) (each_so ys)

@@ -1,5 +1,5 @@
 -- Rows of which none is told.
-use Rattle.erd_shown.proofs.Common.{◌≡◌, ℕ, Bool, true, false, List, [], ◌∷◌, ◌++◌, length, slice_get, map, flat_map, Some, None, Option, ⊤}
+use Rattle.erd_shown.proofs.Common.{◌≡◌, ℕ, Bool, true, false, List, [], ◌∷◌, ◌++◌, length, slice_get, flat_map, Some, Option, ⊤}
 use Rattle.erd_shown.proofs.Common.{sym, refl, ap, ◌∙◌, subst, In, In-all, all_from_In, slice_get_within, AllByRecursion, inl, inr, zero, suc, ◌<◌, arith}
 use Rattle.std.specs.Cmp.{IsEquivalence}
 use Rattle.erd_shown.specs.BallotLaws.{TellsNoDifference}
@@ -9,7 +9,7 @@ use Rattle.erd_shown.specs.declared.rows.Row.{Row}
 use Rattle.erd_shown.specs.declared.rows.Row.TheVariants.{Both, Removed, Added, MovedAway, MovedHere}
 use Rattle.erd_shown.proofs.PartnerLaws.{each_other, one_thing}
 use Rattle.erd_shown.proofs.RowLaws.{equal_lists, partners_count}
-use Rattle.erd_shown.proofs.RowPlaces.{HasRight, Holds, one_left_row, row_with_right}
+use Rattle.erd_shown.proofs.RowPlaces.{HasRight, one_left_row, row_with_right}
 
 -- equality that is decided
 pub equivalence : {K : Type 0} (same : K → K → Bool) → ((x : K) → same x x ≡ true) → ((x y : K) → same x y ≡ true → x ≡ y) → IsEquivalence same

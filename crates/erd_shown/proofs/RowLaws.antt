@@ -63,7 +63,7 @@ module _ {A : Type 0} where
       let walked = paired ls rs rows 0 (length ls) (length rs) (are.left_lines ∙ ap (from 0) e) (are.right_lines ∙ ap (from 0) f) none in
       same_lists ls rs walked.0 (λ h low. ap (slice_get ls) (from_start h) ∙ walked.1 h low ∙ ap (slice_get rs) (sym (from_start h)))
 
-occurrences_count : {K : Type 0} (same : K → K → Bool) (before xs : List K) → length (occurrences_after same before xs) ≡ length xs
+pub occurrences_count : {K : Type 0} (same : K → K → Bool) (before xs : List K) → length (occurrences_after same before xs) ≡ length xs
 occurrences_count same before [] = refl
 occurrences_count same before (x ∷ xs) = ap suc (occurrences_count same (x ∷ before) xs)
 

@@ -1,5 +1,5 @@
 -- The row in which a line stands.
-use Rattle.erd_text.proofs.Common.{◌≡◌, ◌⊎◌, ℕ, zero, suc, ◌+◌, ◌<◌, ◌≤◌, List, [], ◌∷◌, inl, inr, sym, refl, ap, ◌∙◌, arith, subst, In}
+use Rattle.erd_text.proofs.Common.{◌≡◌, ℕ, zero, suc, ◌+◌, ◌<◌, ◌≤◌, List, [], ◌∷◌, inl, inr, sym, refl, ◌∙◌, arith, subst, In}
 use Rattle.erd_shown.specs.Rows.{from, lefts, rights}
 use Rattle.erd_shown.specs.declared.rows.Row.{Row}
 use Rattle.erd_shown.specs.declared.rows.Row.TheVariants.{Both, Removed, Added, MovedAway, MovedHere}

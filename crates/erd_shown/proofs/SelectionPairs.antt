@@ -8,10 +8,10 @@ use Rattle.erd_text.proofs.WholeValues.{whole_rising}
 use Rattle.erd_shown.specs.Shown.{named_record, selection_record_data, shown_in, shown_value}
 use Rattle.erd_shown.specs.code.Selections.{is_selections, named_selection, of_pair, selection_of_pair}
 
-abbrev Pair : Type 0
+abbrev pub Pair : Type 0
 Pair = NameParts × Bor Value
 
-abbrev Named : Type 0
+abbrev pub Named : Type 0
 Named = Option NameParts × Data
 
 abbrev by_own_name : Named → Named → Ordering
@@ -19,10 +19,10 @@ by_own_name x y = option_cmp name_cmp x.0 y.0
 
 module _ (π : Preference) (t : Data) (ds : List Data) (old sorted : List Pair) (named : map of_pair old ≡ map (named_selection π t) ds)
     (rising : sorted ≡ rising_list (by_first name_cmp) old) where
-  abbrev in_order : List Data
+  abbrev pub in_order : List Data
   in_order = rising_list (λ a b. option_cmp name_cmp (name_of π t a) (name_of π t b)) ds
 
-  pairs_sorted : map of_pair sorted ≡ map (named_selection π t) in_order
+  pub pairs_sorted : map of_pair sorted ≡ map (named_selection π t) in_order
   pairs_sorted = ap (map of_pair) rising ∙ rising_list_map of_pair by_own_name old ∙ ap (rising_list by_own_name) named
       ∙ sym (rising_list_map (named_selection π t) by_own_name ds)
 

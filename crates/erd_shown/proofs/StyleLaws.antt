@@ -1,11 +1,11 @@
 -- The styles that are told are those that differ.
-use Rattle.erd_shown.proofs.Common.{◌≡◌, ◌⊎◌, ◌↔◌, ℕ, Bool, List, [], ◌∷◌, length, slice_get, Some, None, Option, inl, inr}
+use Rattle.erd_shown.proofs.Common.{◌≡◌, ℕ, Bool, List, [], ◌∷◌, length, slice_get, Some, None, Option, inl, inr}
 use Rattle.erd_shown.proofs.Common.{sym, refl, ap, ap₂, ◌∙◌, subst, In, In-all, In-from_contains, contains_from_In}
-use Rattle.erd_shown.proofs.Common.{key_cmp_total, options_total, filter_map, cons_option, Data, Preference, Key, family, rising_keys}
+use Rattle.erd_shown.proofs.Common.{key_cmp_total, options_total, filter_map, cons_option, Key, family, rising_keys}
 use Rattle.erd_shown.proofs.Common.{slice_get_within}
 use Rattle.std.specs.Cmp.{IsEquivalence}
 use Rattle.std.proofs.lemmas.Cmp.{eq_by_cmp_equiv}
-use Rattle.erd_shown.specs.BallotDifferences.{AreBallotDifferences, AreStyleRows, StyleFound, is_one_key, is_same_ballot, style_keys, told_of_row}
+use Rattle.erd_shown.specs.BallotDifferences.{AreStyleRows, StyleFound, is_one_key, is_same_ballot, style_keys, told_of_row}
 use Rattle.erd_shown.specs.BallotLaws.{IsDifferingStyle, StylesTell, style_partners}
 use Rattle.erd_shown.specs.Rows.{IsRow}
 use Rattle.erd_shown.specs.declared.rows.Row.{Row}
@@ -37,7 +37,7 @@ some_told f (z ∷ xs) x y (inr g) e = at (f z) (some_told f xs x y g e)
 
 -- ---- styles
 
-keys_alike : IsEquivalence is_one_key
+pub keys_alike : IsEquivalence is_one_key
 keys_alike = eq_by_cmp_equiv (options_total key_cmp_total)
 
 module _ (same : ℕ → ℕ → Bool) (ls rs : List (Option Key × ℕ)) (rows : List Row) (are : AreStyleRows ls rs rows) where

@@ -3,3 +3,4 @@ pub mod RowExamples
 pub mod PartnerExamples
 pub mod BallotExamples
 pub mod WordExamples
+pub mod WordListExamples

@@ -1,20 +1,23 @@
 -- The laws of what is told of two ballots, and of the ballots of two reports. All of this is the profile's own.
-use Rattle.std.specs.Prelude.{ℕ, ◌≡◌, ◌⊎◌, ◌↔◌, List, [], Bool, false, Option, Some, None, Contains, map, slice_get}
+use Rattle.std.specs.Prelude.{ℕ, ◌≡◌, ◌⊎◌, ◌↔◌, List, [], Bool, true, false, Option, Some, None, Contains, map, slice_get}
 use Rattle.std.specs.List.{AllByRecursion}
 use Rattle.serde_json.specs.Data.{Data}
 use Rattle.serde_json.specs.Written.{compact_text}
 use Rattle.erd_tables.specs.declared.class.Family.TheVariants as family
 use Rattle.erd_meaning.specs.Keys.{Preference, key_of}
 use Rattle.erd_meaning.specs.Lookups.{rising_keys}
+use Rattle.erd_meaning.specs.Objects.{IsObject, Placed}
+use Rattle.erd_meaning.specs.Records.{meaning}
 use Rattle.erd_meaning.specs.declared.keys.key.Key.{Key}
 use Rattle.erd_shown.specs.BallotDifferences.{AreBallotDifferences, StyleFound, is_one_key, is_same_ballot, style_keys}
 use Rattle.erd_shown.specs.BallotDifferences.{told_of_both, told_of_left, told_of_right}
 use Rattle.erd_shown.specs.BallotLines.{AreDifferingLines}
 use Rattle.erd_shown.specs.BallotWords.{printed_selections}
 use Rattle.erd_shown.specs.Ballots.{ballot_data, line_data, lines_data, lines_of}
+use Rattle.erd_shown.specs.Laws.{IsTaken}
 use Rattle.erd_shown.specs.Partners.{partners}
 use Rattle.erd_shown.specs.Reworded.{is_ballot_reworded}
-use Rattle.erd_shown.specs.RowData.{AreLineRows}
+use Rattle.erd_shown.specs.RowData.{AreLineRows, style_in}
 use Rattle.erd_shown.specs.declared.rows.Row.{Row}
 use Rattle.erd_shown.specs.declared.rows.Row.TheVariants.{Both}
 
@@ -69,3 +72,18 @@ abbrev pub StylesTell : Type 0
 StylesTell =
     (π ρ : Preference) (t u : Data) (found : List StyleFound) → AreBallotDifferences π t ρ u found
     → (s : StyleFound) → Contains found s ↔ IsDifferingStyle (is_same_ballot π t ρ u) (rising_keys π t family.Style) (rising_keys ρ u family.Style) s
+
+-- ---- reports that mean the same
+
+-- Two ballots pass the test if and only if they are one.
+abbrev pub SameBallotsTell : Type 0
+SameBallotsTell =
+    (π ρ : Preference) (t u d e : Data) (i j : ℕ) → style_in t i ≡ Some d → style_in u j ≡ Some e
+    → (is_same_ballot π t ρ u i j ≡ true) ↔ IsOneBallot π t d ρ u e
+
+-- In reports that mean the same, two styles with one key have one ballot, and no style is told.
+abbrev pub MeaningsTell : Type 0
+MeaningsTell =
+    (π ρ : Preference) (t u : Data) → IsTaken π t → IsTaken ρ u → meaning π t ≡ meaning ρ u
+    → ((o p : Placed) → IsObject t family.Style o → IsObject u family.Style p → key_of π o.value ≡ key_of ρ p.value → IsOneBallot π t o.value ρ u p.value)
+    × ((found : List StyleFound) → AreBallotDifferences π t ρ u found → found ≡ [])

@@ -12,7 +12,6 @@ use Rattle.erd_tables.specs.declared.class.Class.TheVariants as class
 use Rattle.erd_tables.specs.declared.class.Family.{Family}
 use Rattle.erd_tables.specs.declared.class.Family.TheVariants as family
 use Rattle.erd_tables.specs.declared.class.Role.TheVariants as role
-use Rattle.erd_check.specs.Values.{text_at}
 use Rattle.erd_check.specs.Wants.{class_of_object}
 use Rattle.erd_text.specs.RisingLists.{rising_list}
 use Rattle.erd_meaning.specs.Keys.{Preference}
@@ -21,7 +20,7 @@ use Rattle.erd_meaning.specs.SelectionNames.{name_cmp, name_of}
 use Rattle.erd_shown.specs.Ballots.{lines_of}
 use Rattle.erd_shown.specs.ContentData.{is_carried, members_in}
 use Rattle.erd_shown.specs.KeyData.{array_of}
-use Rattle.erd_shown.specs.ListedNames.{listed_at, lists_selections, selections_named}
+use Rattle.erd_shown.specs.ListedNames.{listed_at, lists_selections, selections_on}
 use Rattle.erd_shown.specs.Shown.{shown_members, shown_plain}
 
 -- The members of a contest of any class.
@@ -43,7 +42,10 @@ printed_members class.Party = codes "Name" ∷ codes "Abbreviation" ∷ codes "S
 printed_members class.Coalition = codes "Name" ∷ codes "Abbreviation" ∷ codes "Slogan" ∷ codes "ContestId" ∷ codes "ContestIds" ∷ codes "PartyIds" ∷ []
 printed_members class.Person =
     codes "FullName" ∷ codes "FirstName" ∷ codes "LastName" ∷ codes "Title" ∷ codes "Profession" ∷ codes "PartyId" ∷ []
+printed_members class.Office = codes "Name" ∷ codes "Description" ∷ codes "ElectionDistrictId" ∷ codes "IsPartisan" ∷ []
 printed_members class.Header = codes "Name" ∷ []
+printed_members class.Election =
+    codes "Name" ∷ codes "StartDate" ∷ codes "EndDate" ∷ codes "Type" ∷ codes "OtherType" ∷ codes "ElectionScopeId" ∷ []
 printed_members class.Candidate =
     codes "BallotName" ∷ codes "PartyId" ∷ codes "CampaignSlogan" ∷ codes "IsIncumbent" ∷ codes "IsTopTicket" ∷ codes "PersonId"
     ∷ codes "PreElectionStatus" ∷ []
@@ -92,7 +94,7 @@ abbrev pub selection_words : Preference → Data → Data → Data
 selection_words π t d =
     if lists_selections d
     then array_of (map (words_at_reference π t family.Selection) (listed_at d))
-    else array_of (map (words_data π t family.Selection) (in_name_order π t (selections_named t (text_at (codes "ContestId") d))))
+    else array_of (map (words_data π t family.Selection) (in_name_order π t (selections_on t d)))
 
 -- The same of each line of a ballot.
 abbrev pub printed_selections : Preference → Data → Data → Data

@@ -8,6 +8,7 @@ pub mod ListedNames  -- the names of the selections of a contest on a ballot
 pub mod Ballots  -- the ballot of a style as JSON
 pub mod Heads  -- the heads of the ballots of a report
 pub mod BallotWords  -- what ballots print of an object
+pub mod WordList  -- what ballots print, as a list that has each object of a report once
 pub mod Reworded  -- the lines and ballots with other words in another report
 pub mod Partners  -- which line of one ballot is which line of another
 pub mod Rows  -- the lines of two ballots beside each other

@@ -10,6 +10,7 @@ use Rattle.erd_text.specs.RisingLists.{rising_list}
 use Rattle.erd_meaning.specs.Keys.{Preference}
 use Rattle.erd_meaning.specs.NameParts.{NameParts}
 use Rattle.erd_meaning.specs.Objects.{owner}
+use Rattle.erd_meaning.specs.Records.{class_of_node, is_header_class}
 use Rattle.erd_meaning.specs.SelectionNames.{name_cmp, name_named, name_of}
 
 -- The references to selections that a ballot lists.
@@ -37,13 +38,17 @@ sorted_names π t ds = rising_list name_cmp (filter_map (name_of π t) ds)
 abbrev pub selections_named : Data → List ℕ → List Data
 selections_named t id = option_map_or (entries_at (codes "ContestSelection")) (owner t family.Contest id) []
 
+-- All selections of the contest of a line of a ballot. A header has none.
+abbrev pub selections_on : Data → Data → List Data
+selections_on t d = if is_header_class (class_of_node d) then [] else selections_named t (text_at (codes "ContestId") d)
+
 -- The names of the selections of a contest on a ballot: those that it lists, in their order, or if it lists none all of the
 -- contest, in rising order.
 abbrev pub names_on : Preference → Data → Data → List NameParts
 names_on π t d =
     if lists_selections d
     then names_named π t (listed_at d)
-    else sorted_names π t (selections_named t (text_at (codes "ContestId") d))
+    else sorted_names π t (selections_on t d)
 
 -- The same for two ballots beside each other: in rising order if one of them lists none, which gives no order.
 abbrev pub names_in_order : Bool → List NameParts → List NameParts

@@ -5,7 +5,7 @@ use Rattle.std.specs.List.{list_any}
 use Rattle.std.specs.Option.{option_map_or}
 use Rattle.std.specs.Str.{bytes_eq}
 use Rattle.serde_json.specs.Data.{Data}
-use Rattle.serde_json.specs.Find.{as_str}
+use Rattle.serde_json.specs.Find.{as_str, get}
 use Rattle.erd_tables.specs.declared.class.Family.{Family}
 use Rattle.erd_tables.specs.declared.class.Family.TheVariants as family
 use Rattle.erd_check.specs.Values.{entries_at, text_at}
@@ -20,12 +20,16 @@ use Rattle.erd_shown.specs.BallotWords.{words_text}
 -- ---- references
 
 -- True if the reference names an object of the family of which this is true.
-abbrev pub true_of_named : (Data → Bool) → Data → Family → List ℕ → Bool
-true_of_named P t f id = option_map_or P (owner t f id) false
+abbrev pub true_of_named : (Data → Bool) → Data → Family → Data → Bool
+true_of_named P t f r = option_map_or P (option_and_then (owner t f) (as_str r)) false
+
+-- True if the reference in this member does. An absent one names no object, even if an `@id` is empty.
+abbrev pub true_of_named_at : List ℕ → (Data → Bool) → Data → Family → Data → Bool
+true_of_named_at name P t f d = option_map_or (true_of_named P t f) (get name d) false
 
 -- True if one of the references does.
 abbrev pub true_of_any_named : (Data → Bool) → Data → Family → List Data → Bool
-true_of_any_named P t f rs = list_any (λ r. option_map_or P (option_and_then (owner t f) (as_str r)) false) rs
+true_of_any_named P t f rs = list_any (true_of_named P t f) rs
 
 -- ---- objects
 
@@ -45,15 +49,15 @@ is_reworded π t ρ u f d = option_map_or (λ k. option_map_or (has_other_words 
 abbrev pub is_candidate_reworded : Preference → Data → Preference → Data → Data → Bool
 is_candidate_reworded π t ρ u d =
     is_reworded π t ρ u family.Candidate d
-    || (true_of_named (is_reworded π t ρ u family.Party) t family.Party (text_at (codes "PartyId") d)
-    || true_of_named (is_reworded π t ρ u family.Person) t family.Person (text_at (codes "PersonId") d))
+    || (true_of_named_at (codes "PartyId") (is_reworded π t ρ u family.Party) t family.Party d
+    || true_of_named_at (codes "PersonId") (is_reworded π t ρ u family.Person) t family.Person d)
 
 -- A contest, without its selections: of itself, the parties whose primary it is, or the candidate to be retained.
 abbrev pub is_contest_reworded : Preference → Data → Preference → Data → Data → Bool
 is_contest_reworded π t ρ u d =
     is_reworded π t ρ u family.Contest d
     || (true_of_any_named (is_reworded π t ρ u family.Party) t family.Party (entries_at (codes "PrimaryPartyIds") d)
-    || true_of_named (is_candidate_reworded π t ρ u) t family.Candidate (text_at (codes "CandidateId") d))
+    || true_of_named_at (codes "CandidateId") (is_candidate_reworded π t ρ u) t family.Candidate d)
 
 -- A selection: of its candidates, its parties, or the parties that endorse it.
 abbrev pub is_selection_reworded : Preference → Data → Preference → Data → Data → Bool
@@ -75,8 +79,8 @@ are_selections_reworded π t ρ u d =
 abbrev pub is_line_reworded : Preference → Data → Preference → Data → Data → Bool
 is_line_reworded π t ρ u d =
     if is_header_class (class_of_node d)
-    then true_of_named (is_reworded π t ρ u family.Header) t family.Header (text_at (codes "HeaderId") d)
-    else true_of_named (is_contest_reworded π t ρ u) t family.Contest (text_at (codes "ContestId") d) || are_selections_reworded π t ρ u d
+    then true_of_named_at (codes "HeaderId") (is_reworded π t ρ u family.Header) t family.Header d
+    else true_of_named_at (codes "ContestId") (is_contest_reworded π t ρ u) t family.Contest d || are_selections_reworded π t ρ u d
 
 -- Those whose voters get the ballot of a style.
 abbrev pub are_voters_reworded : Preference → Data → Preference → Data → Data → Bool

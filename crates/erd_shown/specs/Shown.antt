@@ -60,7 +60,7 @@ abbrev pub shown_members : (List ℕ → Data → Option Data) → Members → M
 shown_members value_of no_members = no_members
 shown_members value_of (member k d ms) = option_map_or (λ v. member k v (shown_members value_of ms)) (value_of k d) (shown_members value_of ms)
 
--- The record of an object of this class: its class, and its members.
+-- An object's record. It has the class and the members.
 abbrev pub record_in_class : (List ℕ → Data → Option Data) → Class → Data → Data
 record_in_class value_of c d =
     object (member (codes "class") (string (text_of_class c)) (member (codes "members") (object (shown_members value_of (members_in d))) no_members))

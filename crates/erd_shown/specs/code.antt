@@ -4,9 +4,11 @@ pub mod Fitting
 pub mod Selections
 pub mod LineLists
 pub mod PlacesFound
+pub mod NumbersGiven
 pub mod LineTexts
 pub mod Marks
 pub mod BesideWritten
 pub mod LentNames
 pub mod SelectionsFound
 pub mod Pairs
+pub mod Worded

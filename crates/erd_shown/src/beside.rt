@@ -3,6 +3,7 @@ ghost use Rattle.std.specs.Ordering.{eq_by_cmp};
 ghost use Rattle.erd_shown.specs.Partners.{partners};
 ghost use Rattle.erd_shown.specs.Rows.{AreRows};
 
+use crate::numbers::numbered;
 use crate::partners::partners_of;
 use crate::rows::{Row, rows_of};
 use std::alloc::{AllocError, Global};
@@ -29,8 +30,9 @@ pub fn rows_between<K: Ord + Copy>(
 ) -> Result<Vec<Row>, AllocError>
     ensures { IfOk result (λ rows. AreRows (partners (eq_by_cmp K.cmp) left.now right.now) (partners (eq_by_cmp K.cmp) right.now left.now) rows.items) }
 {
-    let here = partners_of(alloc, left, right)?;
-    let there = partners_of(alloc, right, left)?;
+    let (ones, others) = numbered(alloc, left, right)?;
+    let here = partners_of(alloc, &ones, &others)?;
+    let there = partners_of(alloc, &others, &ones)?;
     let stays = staying(alloc, &here)?;
     rows_of(alloc, &here, &there, &stays)
 }

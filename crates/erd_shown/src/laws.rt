@@ -1,4 +1,4 @@
-ghost use Rattle.erd_shown.specs.BallotLaws.{BallotsTell, LinesTell, StylesTell};
+ghost use Rattle.erd_shown.specs.BallotLaws.{BallotsTell, LinesTell, MeaningsTell, SameBallotsTell, StylesTell};
 ghost use Rattle.erd_shown.specs.Laws.{MembersTell, ObjectsTell};
 
 /// The law that the members with one name, of two objects of one class, are written alike if and only if they mean the same. The
@@ -31,4 +31,17 @@ pub fn lines_tell()
 /// style whose ballots alone were changed is told alone. The function does nothing.
 pub fn styles_tell()
     ensures law { StylesTell }
+{}
+
+/// The law that two ballots of styles pass the test by which styles are told if and only if they are one, as [`lines_tell`] says.
+/// The function does nothing.
+pub fn same_ballots_tell()
+    ensures law { SameBallotsTell }
+{}
+
+/// The law that equal meanings give equal ballots. In two accepted reports that mean the same, each under its own preference, two
+/// styles with one key have one ballot, and
+/// [`differing_ballots`](crate::ballot_differences::differing_ballots) returns no style. The function does nothing.
+pub fn meanings_tell()
+    ensures law { MeaningsTell }
 {}

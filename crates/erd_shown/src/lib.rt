@@ -24,6 +24,7 @@ mod marks;
 mod members;
 mod named;
 mod names;
+mod numbers;
 mod objects;
 mod pairs;
 mod partners;
@@ -38,6 +39,7 @@ mod selections;
 mod side_values;
 mod texts;
 mod values;
+mod word_list;
 mod words;
 
 pub use ballot_differences::{BallotDifference, differing_ballots};
@@ -48,8 +50,12 @@ pub use beside::rows_between;
 pub use beside_texts::ballots_beside_text;
 pub use differing_styles::{ballot_differences_lines, ballot_differences_text};
 pub use heads::ballots_text;
-pub use laws::{ballots_tell, members_tell, objects_tell};
+pub use laws::{
+    ballots_tell, lines_tell, meanings_tell, members_tell, objects_tell, same_ballots_tell,
+    styles_tell,
+};
 pub use objects::write_object;
 pub use partners::{occurrences, partners_of};
 pub use rows::{Row, rows_of};
-pub use side_values::side_value_text;
+pub use side_values::{contest_with_key, selection_value_text, side_value_text};
+pub use word_list::{WordedObject, worded_objects, worded_text};

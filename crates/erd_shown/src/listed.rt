@@ -6,10 +6,12 @@ ghost use Rattle.erd_check.specs.Values.{entries_at};
 ghost use Rattle.erd_text.specs.RisingLists.{rising_list};
 ghost use Rattle.erd_meaning.specs.Objects.{objects};
 ghost use Rattle.erd_meaning.specs.SelectionNames.{name_cmp};
-ghost use Rattle.erd_shown.specs.ListedNames.{is_filled, lists_selections, names_in_order, names_named, names_on, sorted_names, selections_named};
+ghost use Rattle.erd_shown.specs.ListedNames.{is_filled, lists_selections, names_in_order, names_named, names_on};
+ghost use Rattle.erd_shown.specs.ListedNames.{selections_named, selections_on, sorted_names};
 ghost use Rattle.erd_shown.specs.code.LentNames.{lent};
 ghost use Rattle.erd_shown.specs.code.Selections.{AreNamedFrom};
 
+use crate::contents::is_header;
 use crate::lookups::{name_named, place_named};
 use crate::selections::{LentName, named_selections};
 use erd_check::values::{entries_at, text_at};
@@ -50,6 +52,22 @@ pub(crate) fn names_on<'a>(
             report,
             entries_at(node, "OrderedContestSelectionIds"),
         )
+    } else {
+        all_names(alloc, report, node)
+    }
+}
+
+/// Returns the names of all selections of the contest of a line, in rising order. A header has none.
+fn all_names<'a>(
+    alloc: Global,
+    report: &'a Report,
+    node: &Value,
+) -> Result<Vec<&'a SelectionName>, AllocError>
+    ensures { IfOk result (λ names. map lent names.items ≡ sorted_names report.now.prefer (view report.now.tree)
+        (selections_on (view report.now.tree) (view node.now))) }
+{
+    if is_header(node) {
+        Ok(Vec::new(alloc))
     } else {
         names_of_named(alloc, report, text_at(node, "ContestId"))
     }

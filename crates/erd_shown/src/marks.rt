@@ -5,9 +5,9 @@ ghost use Rattle.erd_meaning.specs.Objects.{Placed, objects};
 ghost use Rattle.erd_shown.specs.Reworded.{is_candidate_reworded, is_contest_reworded, is_reworded};
 ghost use Rattle.erd_shown.specs.code.Marks.{AreMarks, marks_of};
 
-use crate::named::{any_named, is_named};
+use crate::named::{any_named, is_named_at};
 use crate::reworded::{is_reworded, object_at, reworded};
-use erd_check::values::{entries_at, text_at};
+use erd_check::values::entries_at;
 use erd_meaning::Report;
 use erd_tables::Family;
 use std::alloc::{AllocError, Global};
@@ -90,13 +90,8 @@ fn is_candidate_reworded(
     let own = is_reworded(alloc, left, right, Family::Candidate, position)?;
     match object_at(left, Family::Candidate, position) {
         Some(candidate) => {
-            let party = is_named(left, Family::Party, parties, text_at(candidate, "PartyId"));
-            let person = is_named(
-                left,
-                Family::Person,
-                persons,
-                text_at(candidate, "PersonId"),
-            );
+            let party = is_named_at(left, Family::Party, parties, candidate, "PartyId");
+            let person = is_named_at(left, Family::Person, persons, candidate, "PersonId");
             Ok(any_of(own, party, person))
         }
         None => Ok(own),
@@ -153,11 +148,12 @@ fn is_contest_reworded(
                 parties,
                 entries_at(contest, "PrimaryPartyIds"),
             );
-            let candidate = is_named(
+            let candidate = is_named_at(
                 left,
                 Family::Candidate,
                 candidates,
-                text_at(contest, "CandidateId"),
+                contest,
+                "CandidateId",
             );
             Ok(any_of(own, party, candidate))
         }

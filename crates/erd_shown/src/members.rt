@@ -9,8 +9,9 @@ ghost use Rattle.erd_shown.specs.ContentData.{members_in};
 ghost use Rattle.erd_shown.specs.Shown.{shown_members, shown_plain};
 ghost use Rattle.erd_shown.specs.code.Writing.{member_told};
 
-use crate::values::{is_shown, write_shown};
+use crate::values::write_shown;
 use erd_meaning::Report;
+use erd_meaning::members::means_nothing;
 use erd_tables::{Class, is_envelope, member_kind};
 use erd_text::Output;
 use serde_json::{Map, Value};
@@ -74,13 +75,14 @@ pub(crate) fn write_plain_member(
 }
 
 /// Returns whether a member of an object of the class means something by itself.
+#[tactic(auto, using(crate::proofs::told::Records::shown_if_meant))]
 pub(crate) fn is_written(class: Class, name: &str, member: &Value) -> bool
     ensures { (π : Preference) (t : Data) → result ≡ is_some (shown_plain π t class name.now (view member.now)) }
 {
     if is_in_envelope(class, name) {
         false
     } else {
-        is_shown(member_kind(class, name), member)
+        !means_nothing(member_kind(class, name), member)
     }
 }
 

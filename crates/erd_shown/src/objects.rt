@@ -97,7 +97,7 @@ pub(crate) fn placed<'a>(
 }
 
 /// Returns the value of the object with a role at a position of the report that has this tree, if there is one.
-fn value_at<'a>(
+pub(crate) fn value_at<'a>(
     report: &'a Report,
     tree: &'a Value,
     role: Role,

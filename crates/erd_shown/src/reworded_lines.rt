@@ -1,14 +1,10 @@
-ghost use Rattle.std.specs.Prelude.{◌≡◌, ◌||◌, false, map, codes, option_and_then, IfOk};
+ghost use Rattle.std.specs.Prelude.{◌≡◌, ◌||◌, map, codes, IfOk};
 ghost use Rattle.std.specs.List.{list_any};
-ghost use Rattle.std.specs.Option.{option_map_or};
-ghost use Rattle.serde_json.specs.Find.{as_str};
 ghost use Rattle.serde_json.specs.View.{view};
 ghost use Rattle.erd_tables.specs.declared.class.Family.TheVariants as family;
 ghost use Rattle.erd_shown.specs.ListedNames.{selections_named};
-ghost use Rattle.erd_check.specs.Values.{text_at};
-ghost use Rattle.erd_meaning.specs.Objects.{owner};
 ghost use Rattle.erd_shown.specs.Reworded.{are_selections_reworded, are_voters_reworded, is_ballot_reworded, is_contest_reworded, is_line_reworded};
-ghost use Rattle.erd_shown.specs.Reworded.{is_reworded, is_selection_reworded, true_of_any_named, true_of_named};
+ghost use Rattle.erd_shown.specs.Reworded.{is_reworded, is_selection_reworded, true_of_any_named, true_of_named, true_of_named_at};
 ghost use Rattle.erd_shown.specs.code.LineLists.{of_line};
 ghost use Rattle.erd_shown.specs.code.Marks.{AreMarks};
 
@@ -17,7 +13,7 @@ use crate::contents::is_header;
 use crate::lines::Line;
 use crate::listed::lists_selections;
 use crate::marks::{Marks, any_of, one_of};
-use crate::named::{any_named, is_named};
+use crate::named::{any_named, is_named_at};
 use crate::reworded::{object_named, object_referred};
 use erd_check::values::{entries_at, text_at};
 use erd_meaning::Report;
@@ -82,22 +78,20 @@ pub(crate) fn is_line_reworded(left: &Report, node: &Value, right: &Report, mark
 /// Returns whether ballots print other words of a line that is a header.
 fn is_header_line_reworded(left: &Report, node: &Value, right: &Report, marks: &Marks) -> bool
     requires marks { AreMarks left.now.prefer (view left.now.tree) right.now.prefer (view right.now.tree) marks.now }
-    ensures { result ≡ true_of_named (is_reworded left.now.prefer (view left.now.tree) right.now.prefer (view right.now.tree) family.Header)
-        (view left.now.tree) family.Header (text_at (codes "HeaderId") (view node.now)) }
+    ensures { result ≡ true_of_named_at (codes "HeaderId") (is_reworded left.now.prefer (view left.now.tree) right.now.prefer (view right.now.tree)
+        family.Header) (view left.now.tree) family.Header (view node.now) }
 {
-    let id = text_at(node, "HeaderId");
-    is_named(left, Family::Header, &marks.headers, id)
+    is_named_at(left, Family::Header, &marks.headers, node, "HeaderId")
 }
 
 /// Returns whether ballots print other words of a line that is a contest.
 fn is_contest_line_reworded(left: &Report, node: &Value, right: &Report, marks: &Marks) -> bool
     requires marks { AreMarks left.now.prefer (view left.now.tree) right.now.prefer (view right.now.tree) marks.now }
-    ensures { result ≡ (true_of_named (is_contest_reworded left.now.prefer (view left.now.tree) right.now.prefer (view right.now.tree)) (view left.now.tree)
-        family.Contest (text_at (codes "ContestId") (view node.now))
+    ensures { result ≡ (true_of_named_at (codes "ContestId") (is_contest_reworded left.now.prefer (view left.now.tree) right.now.prefer (view right.now.tree))
+        (view left.now.tree) family.Contest (view node.now)
         || are_selections_reworded left.now.prefer (view left.now.tree) right.now.prefer (view right.now.tree) (view node.now)) }
 {
-    let id = text_at(node, "ContestId");
-    let contest = is_named(left, Family::Contest, &marks.contests, id);
+    let contest = is_named_at(left, Family::Contest, &marks.contests, node, "ContestId");
     let selections = are_selections_reworded(left, node, right, marks);
     one_of(contest, selections)
 }
@@ -133,8 +127,8 @@ fn any_listed_reworded(left: &Report, references: &[Value], right: &Report, mark
 /// Returns whether a reference names a selection of which ballots print other words.
 fn is_listed_reworded(left: &Report, reference: &Value, right: &Report, marks: &Marks) -> bool
     requires marks { AreMarks left.now.prefer (view left.now.tree) right.now.prefer (view right.now.tree) marks.now }
-    ensures { result ≡ option_map_or (is_selection_reworded left.now.prefer (view left.now.tree) right.now.prefer (view right.now.tree))
-        (option_and_then (owner (view left.now.tree) family.Selection) (as_str (view reference.now))) false }
+    ensures { result ≡ true_of_named (is_selection_reworded left.now.prefer (view left.now.tree) right.now.prefer (view right.now.tree))
+        (view left.now.tree) family.Selection (view reference.now) }
 {
     match object_referred(left, Family::Selection, reference) {
         Some(selection) => is_selection_reworded(left, selection, right, marks),

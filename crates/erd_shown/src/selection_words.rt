@@ -8,12 +8,12 @@ ghost use Rattle.erd_meaning.specs.Objects.{objects};
 ghost use Rattle.erd_text.specs.Tokens.{value_tokens};
 ghost use Rattle.erd_shown.specs.BallotWords.{in_name_order, selection_words, printed_selections, selections_in, words_at_reference, words_data};
 ghost use Rattle.erd_shown.specs.KeyData.{array_of};
-ghost use Rattle.erd_shown.specs.ListedNames.{selections_named};
+ghost use Rattle.erd_shown.specs.ListedNames.{selections_named, selections_on};
 ghost use Rattle.erd_shown.specs.code.LineLists.{of_line};
 ghost use Rattle.erd_shown.specs.code.Selections.{AreNamedFrom};
 
 use crate::ballots::lines_of;
-use crate::contents::write_nothing;
+use crate::contents::{is_header, write_nothing};
 use crate::lines::Line;
 use crate::listed::lists_selections;
 use crate::lookups::place_named;
@@ -108,6 +108,23 @@ fn write_line(
     if lists_selections(node) {
         let references = entries_at(node, "OrderedContestSelectionIds");
         write_listed(alloc, report, references, out)
+    } else {
+        write_all(alloc, report, node, out)
+    }
+}
+
+/// Writes what ballots print of all selections of the contest of a line, in the rising order of their names. A header has none.
+fn write_all(
+    alloc: Global,
+    report: &Report,
+    node: &Value,
+    out: &mut Output,
+) -> Result<(), AllocError>
+    ensures { OnOk result (out.new ≡ out.old ++ value_tokens (array_of (map (words_data report.now.prefer (view report.now.tree) family.Selection)
+        (in_name_order report.now.prefer (view report.now.tree) (selections_on (view report.now.tree) (view node.now)))))) }
+{
+    if is_header(node) {
+        write_nothing(out)
     } else {
         write_named(alloc, report, text_at(node, "ContestId"), out)
     }

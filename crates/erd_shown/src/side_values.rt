@@ -11,11 +11,13 @@ ghost use Rattle.erd_shown.specs.Shown.{placed_in};
 ghost use Rattle.erd_shown.specs.SideValues.{side_value, told_member, told_of_object, told_of_placed, told_plain, told_record};
 
 mod key_places;
+mod selections;
 mod told_members;
 
 use crate::keys::write_key;
 use crate::objects::{PlacedObject, placed, write_head};
 use crate::side_values::key_places::place_with_key;
+pub use crate::side_values::selections::{contest_with_key, selection_value_text};
 use crate::side_values::told_members::{is_told, write_told_object};
 use crate::texts::text_of;
 use crate::values::write_shown;
@@ -29,9 +31,9 @@ use std::alloc::{AllocError, Global};
 /// object where no name is given. Returns `None` where the report has none.
 ///
 /// Keys stand in place of references. The record has the class of the object, the key of the election that holds it, and its
-/// members. The selections of a contest and the content of a ballot are left out: `ballots_beside_text` tells them line by line,
-/// and a difference of a contest has its selections by name. The name `ElectionId` asks for the key of the election that holds
-/// the object. The report itself has no key, and selections are not found by keys.
+/// members. The selections of a contest and the content of a ballot are left out: `selection_value_text` tells what a contest has
+/// at the name of a selection, and `ballots_beside_text` the lines of ballots. The name `ElectionId` asks for the key of the
+/// election that holds the object. The report itself has no key, and selections are not found by keys.
 ///
 /// An election is sought in the order of the keys of elections, an object of a family by its key.
 ///
@@ -186,7 +188,7 @@ fn own_text(
 }
 
 /// Returns the text of the value of a member of an object of the class, if it is told.
-fn value_text(
+pub(crate) fn value_text(
     alloc: Global,
     report: &Report,
     class: Class,

@@ -1,41 +1,19 @@
-ghost use Rattle.std.specs.Prelude.{◌≡◌, ◌++◌, Some, false, is_some, true, OnOk};
+ghost use Rattle.std.specs.Prelude.{◌≡◌, ◌++◌, Some, false, true, OnOk};
 ghost use Rattle.serde_json.specs.Data.{Data};
 ghost use Rattle.serde_json.specs.View.{view};
 ghost use Rattle.serde_json.specs.Written.{has_float};
 ghost use Rattle.erd_text.specs.Tokens.{value_tokens};
-ghost use Rattle.erd_meaning.specs.Keys.{Preference};
 ghost use Rattle.erd_shown.specs.Shown.{shown_value};
 ghost use Rattle.erd_shown.specs.code.Writing.{names_keys};
 
 use crate::contents::write_content;
 use crate::references::{write_reference, write_reference_set};
-use erd_check::values::{entries_of, is_empty_array};
+use erd_check::values::entries_of;
 use erd_meaning::Report;
 use erd_tables::MemberKind;
 use erd_text::{Output, write_label, write_rising_values, write_value};
 use serde_json::Value;
 use std::alloc::{AllocError, Global};
-
-/// Returns whether a value of this kind means anything by itself: it is not an empty array of the table, nor a value of a kind
-/// that means nothing.
-#[tactic(auto, using(crate::proofs::EmptyArrays::unless_by_test))]
-pub(crate) fn is_shown(kind: MemberKind, value: &Value) -> bool
-    ensures { (π : Preference) (t : Data) → result ≡ is_some (shown_value π t kind (view value.now)) }
-{
-    match kind {
-        MemberKind::Word
-        | MemberKind::Flag
-        | MemberKind::Whole
-        | MemberKind::Carried
-        | MemberKind::Label
-        | MemberKind::One(_) => true,
-        MemberKind::Many(_)
-        | MemberKind::Identifiers
-        | MemberKind::Languages
-        | MemberKind::Content => !is_empty_array(value),
-        _ => false,
-    }
-}
 
 /// Writes what a value of this kind means, if it means anything by itself, and says whether it does.
 pub(crate) fn write_shown(

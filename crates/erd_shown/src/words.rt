@@ -51,7 +51,7 @@ pub(crate) fn write_words(
 }
 
 /// Writes what ballots print of an object of the class.
-fn write_words_in_class(
+pub(crate) fn write_words_in_class(
     alloc: Global,
     report: &Report,
     class: Class,
@@ -147,7 +147,16 @@ fn printed_members(class: Class) -> &'static [&'static str]
             "Profession",
             "PartyId",
         ],
+        Class::Office => &["Name", "Description", "ElectionDistrictId", "IsPartisan"],
         Class::Header => &["Name"],
+        Class::Election => &[
+            "Name",
+            "StartDate",
+            "EndDate",
+            "Type",
+            "OtherType",
+            "ElectionScopeId",
+        ],
         Class::Candidate => &[
             "BallotName",
             "PartyId",

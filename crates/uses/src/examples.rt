@@ -1,6 +1,6 @@
 //! A short example of each public call, as a caller writes it. The doc comment of the call has the same lines, where
-//! `assert_eq!` may stand for `assert!`. What several lines assert stands here in one condition: the proof takes a third of the
-//! time.
+//! `assert_eq!` may stand for `assert!`. What several lines assert stands here in one condition, and what they assert of
+//! `call()?` may be asked of the result, as `call() == Ok(..)`: the proof takes a third of the time.
 mod ballots;
 mod bytes;
 mod data;
@@ -14,3 +14,4 @@ mod shown;
 mod tables;
 mod text_pieces;
 mod texts;
+mod words;

@@ -7,6 +7,7 @@ use Rattle.erd_check.proofs.Reports.{contest_node, header_node}
 use Rattle.erd_tables.specs.declared.class.Class.TheVariants as class
 use Rattle.erd_shown.specs.BallotDifferences.{AreBallotDifferences, StyleFound}
 use Rattle.erd_shown.specs.BallotLines.{AreDifferingLines, IsStyleTold, head_lines, told_text}
+use Rattle.erd_shown.specs.BallotWords.{selection_words}
 use Rattle.erd_shown.specs.Ballots.{lines_data, lines_of}
 use Rattle.erd_shown.specs.Heads.{heads_data}
 use Rattle.erd_shown.specs.ListedNames.{names_in_order, names_on}
@@ -87,6 +88,16 @@ write_in_line = record { class = class.CandidateSelection; keys = []; write_in =
 
 abbrev listing : List ℕ → Data
 listing ids = tree_of (codes "{\"@type\":\"ElectionResults.OrderedContest\",\"ContestId\":\"a8\",\"OrderedContestSelectionIds\":[" ++ ids ++ codes "]}")
+
+-- a header has no selections, not even those of a contest whose `@id` is empty
+abbrev without_id : Data
+without_id = tree_of
+    (codes "{\"Election\":[{\"Contest\":[{\"@id\":\"\",\"@type\":\"ElectionResults.CandidateContest\","
+    ++ codes "\"ContestSelection\":[{\"@type\":\"ElectionResults.CandidateSelection\",\"IsWriteIn\":true}]}]}]}")
+
+none_of_header : (names_on None without_id (tree_of header_node) ≡ []) × (compact_text (selection_words None without_id (tree_of header_node)) ≡ codes "[]")
+unfolding serde_json_on_literals
+none_of_header = (refl, refl)
 
 -- three that are listed, and two of them in another order: one stays, one moves, one is gone
 abbrev listed : Beside

@@ -1,8 +1,9 @@
 -- The words of ballots in another report, by computation.
-use Rattle.erd_shown.proofs.Common.{◌≡◌, ℕ, List, [], ◌∷◌, ◌++◌, Some, None, codes, refl, Data, tree_of, local_key, family}
+use Rattle.erd_shown.proofs.Common.{◌≡◌, ℕ, true, List, [], ◌∷◌, ◌++◌, Some, None, codes, refl, Data, tree_of, local_key, family}
 unfoldable use Rattle.erd_shown.proofs.Common.{digits, serde_json_on_literals}
 use Rattle.erd_shown.specs.BallotDifferences.{AreBallotDifferences, StyleFound}
 use Rattle.erd_shown.specs.BallotWords.{words_text}
+use Rattle.erd_shown.specs.Reworded.{is_reworded}
 use Rattle.erd_shown.specs.declared.rows.Row.TheVariants.{Both}
 
 -- the start of an object of the class with this `@id`
@@ -99,3 +100,19 @@ other_unit = record { rows = Both 0 0 ∷ []; are_rows = record { left_lines = r
 other_party : AreBallotDifferences None one None (report_with bo one_vote first (codes "\"Name\":\"Green\"")) differs
 unfolding digits serde_json_on_literals
 other_party = record { rows = Both 0 0 ∷ []; are_rows = record { left_lines = refl; right_lines = refl; so = (refl, tt) }; tells = refl }
+
+-- a person whose `@id` is empty: no candidate without a `PersonId` is this one
+abbrev with_person : List ℕ → Data
+with_person name =
+    report_with bo one_vote first
+    (blue ++ codes "}],\"Person\":[" ++ start [] (codes "Person") ++ code (codes "N1") ++ codes "\"FullName\":\"" ++ name ++ codes "\"")
+
+other_person : AreBallotDifferences None (with_person (codes "Ann")) None (with_person (codes "Eve")) []
+unfolding digits serde_json_on_literals
+other_person = record { rows = Both 0 0 ∷ []; are_rows = record { left_lines = refl; right_lines = refl; so = (refl, tt) }; tells = refl }
+
+-- but the other report has other words of this person
+person_reworded : is_reworded None (with_person (codes "Ann")) None (with_person (codes "Eve")) family.Person
+    (tree_of (start [] (codes "Person") ++ code (codes "N1") ++ codes "\"FullName\":\"Ann\"}")) ≡ true
+unfolding serde_json_on_literals
+person_reworded = refl

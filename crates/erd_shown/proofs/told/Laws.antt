@@ -84,10 +84,10 @@ nothing_of_kind π t c (Some d) = refl
 no_election_id : (π : Preference) (t : Data) (ms : Members) (c : Class) → member_of_class π t (object ms) c (codes "ElectionId") ≡ None
 no_election_id π t ms c = nothing_of_kind π t c (get_member (codes "ElectionId") ms)
 
-abbrev Read : Type 0
+abbrev pub Read : Type 0
 Read = List ℕ → Option MemberValue
 
-without_key : (k : Option Key) (m : Read) (name : List ℕ) → bytes_eq name (codes "ElectionId") ≡ false → with_election_id k m name ≡ m name
+pub without_key : (k : Option Key) (m : Read) (name : List ℕ) → bytes_eq name (codes "ElectionId") ≡ false → with_election_id k m name ≡ m name
 without_key None m name other = refl
 without_key (Some k) m name other = rw other
 
@@ -108,7 +108,7 @@ members_alike k l m n none none' e = fun_ext (λ name. at name (bytes_eq name (c
 
 -- ---- objects
 
-abbrev meant_in : Option Key → Class → Read → ObjectRecord
+abbrev pub meant_in : Option Key → Class → Read → ObjectRecord
 meant_in k c m = record { class = c; members = with_election_id k m }
 
 module _ (π ρ : Preference) (t u : Data) (ms ns : Members) (rise : AreMembers ms) (rise' : AreMembers ns) (k l : Option Key) where
@@ -163,7 +163,7 @@ module _ (π : Preference) (t : Data) (r : Role) (o : Placed) (a : Taken π t r 
   in_no_election : object_record π t r o.value ≡ Some (meant_in None of.class (member_of_class π t (object of.ms) of.class))
   in_no_election = plain_record ∙ ap (λ (m : Read). Some (record { class = of.class; members = m })) (fun_ext (λ name. refl))
 
-meant : (π : Preference) (t : Data) (r : Role) (o : Placed) (a : Taken π t r o)
+pub meant : (π : Preference) (t : Data) (r : Role) (o : Placed) (a : Taken π t r o)
     → placed_meaning π t r o ≡ Some (meant_in (holder_key π t r o) a.object_there.class (member_of_class π t (object a.object_there.ms) a.object_there.class))
 meant π t (role.OfFamily family.Selection) o a = in_no_election π t (role.OfFamily family.Selection) o a
 meant π t (role.OfFamily f) o a = ap (option_map (record_in_election (election_key_of π t o))) (plain_record π t (role.OfFamily f) o a)

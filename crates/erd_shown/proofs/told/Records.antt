@@ -1,7 +1,7 @@
 -- The members of two objects are written alike if and only if they mean the same.
 use Rattle.erd_text.proofs.Common.{◌≡◌, ℕ, Bool, true, false, cond, List, Some, None, Option, option_and_then, sym, refl, ap, ◌∙◌, subst, fun_ext, Ordering}
 use Rattle.erd_text.proofs.Common.{Less, Equal, Greater, exact_bytes, nat_list_cmp_total, Data, object, Members, no_members, member, get_member, MemberKind}
-use Rattle.erd_text.proofs.Common.{kind, Class}
+use Rattle.erd_text.proofs.Common.{kind, Class, not, is_some, is_none}
 use Rattle.std.specs.Prelude.{◌↔◌}
 use Rattle.std.specs.Ordering.{match_ordering}
 use Rattle.std.specs.Option.{option_map_or}
@@ -99,6 +99,14 @@ module _ (π : Preference) (t : Data) where
   told kind.Languages d = of_held kind.Languages d _ _ refl refl (held d)
   told kind.Content d = of_held kind.Content d _ _ refl refl (held d)
   told k d = neither refl refl
+
+  -- so the program may ask whether it means something
+  pub shown_if_meant : (k : MemberKind) (d : Data) → is_some (shown_value π t k d) ≡ not (is_none (plain_value π t k d))
+  shown_if_meant k d = at (told k d)
+    where
+      at : Told k d → is_some (shown_value π t k d) ≡ not (is_none (plain_value π t k d))
+      at (neither e g) = ap is_some e ∙ sym (ap (λ p. not (is_none p)) g)
+      at (both x v e g) = ap is_some e ∙ sym (ap (λ p. not (is_none p)) g)
 
 -- ---- under one name
 

@@ -147,13 +147,13 @@ module _ (π : Preference) (t : Data) where
   abbrev pub by_name : Data → Data → Ordering
   by_name a b = names_cmp (name_of π t a) (name_of π t b)
 
-  abbrev has_name : NameParts → Data → Bool
+  abbrev pub has_name : NameParts → Data → Bool
   has_name n d = is_eq (names_cmp (name_of π t d) (Some n))
 
-  name_told : (n : NameParts) (d : Data) → has_name n d ≡ true → name_of π t d ≡ Some n
+  pub name_told : (n : NameParts) (d : Data) → has_name n d ≡ true → name_of π t d ≡ Some n
   name_told n d e = names_cmp_exact (name_of π t d) (Some n) ((Equal-is (names_cmp (name_of π t d) (Some n))).0 e)
 
-  told_name : (n : NameParts) (d : Data) → name_of π t d ≡ Some n → has_name n d ≡ true
+  pub told_name : (n : NameParts) (d : Data) → name_of π t d ≡ Some n → has_name n d ≡ true
   told_name n d e = ap (λ o. is_eq (names_cmp o (Some n))) e ∙ ap is_eq (tied_itself names_total (Some n))
 
   apart : (n : NameParts) (d : Data) (ds : List Data) → has_name n d ≡ true → AllByRecursion (λ e. eq_by_cmp by_name d e ≡ false) ds
@@ -165,7 +165,7 @@ module _ (π : Preference) (t : Data) where
     apart n d ds e h.1,
   )
 
-  once : (n : NameParts) (ds : List Data) → IsDistinct (eq_by_cmp by_name) ds → Once (has_name n) ds
+  pub once : (n : NameParts) (ds : List Data) → IsDistinct (eq_by_cmp by_name) ds → Once (has_name n) ds
   unfolding IsDistinct
   once n [] h = tt
   once n (d ∷ ds) h = (λ e. apart n d ds e h.0, once n ds h.1)
@@ -189,7 +189,7 @@ module _ (π : Preference) (t : Data) where
   abbrev meant_in : Data → Class → SelectionRecord
   meant_in d c = record { class = c; members = plain_member π t d c }
 
-  has_record : (d : Data) (n : NameParts) → name_of π t d ≡ Some n → selection_record π t d ≡ None → ⊥
+  pub has_record : (d : Data) (n : NameParts) → name_of π t d ≡ Some n → selection_record π t d ≡ None → ⊥
   has_record d n e g = no_record (λ c. name_in_class π (key_named π t) c d) (meant_in d) (class_of_object selection_role d) n e g
 
   -- what the map has a record at is the name of a selection
@@ -206,7 +206,7 @@ module _ (π ρ : Preference) (t u : Data) where
   fits_of : (σ : Preference) (v d : Data) → IsSelection σ v d → Fits (name_of σ v d)
   fits_of σ v d s = subst Fits (sym s.named) s.fits
 
-  one_record : (d e : Data) → IsSelection π t d → IsSelection ρ u e
+  pub one_record : (d e : Data) → IsSelection π t d → IsSelection ρ u e
       → (record_data (shown_plain π t) selection_role d ≡ record_data (shown_plain ρ u) selection_role e) ↔ (selection_record π t d ≡ selection_record ρ u e)
   one_record d e s r =
       let told = record_told π ρ t u s.ms r.ms s.rise r.rise s.fit r.fit in
@@ -222,10 +222,10 @@ module _ (π ρ : Preference) (t u : Data) where
   other e = selection_record_data ρ u e
 
   -- equal entries
-  names_from : (d e : Data) → IsSelection π t d → IsSelection ρ u e → one d ≡ other e → name_of π t d ≡ name_of ρ u e
+  pub names_from : (d e : Data) → IsSelection π t d → IsSelection ρ u e → one d ≡ other e → name_of π t d ≡ name_of ρ u e
   names_from d e s r h = let names : shown_name (name_of π t d) ≡ shown_name (name_of ρ u e) = cc in names_exact _ _ (fits_of π t d s) (fits_of ρ u e r) names
 
-  records_from : (d e : Data) → one d ≡ other e → record_data (shown_plain π t) selection_role d ≡ record_data (shown_plain ρ u) selection_role e
+  pub records_from : (d e : Data) → one d ≡ other e → record_data (shown_plain π t) selection_role d ≡ record_data (shown_plain ρ u) selection_role e
   records_from d e h = cc
 
   in_step : (n : NameParts) (xs ys : List Data) → AllByRecursion (IsSelection π t) xs → AllByRecursion (IsSelection ρ u) ys → map one xs ≡ map other ys

@@ -1,7 +1,6 @@
 //! Examples of `erd_index`.
 use erd_index::{Salt, SaltHasher, SaltedSet, Sought};
 use std::hash::{Hash, Hasher};
-use std::test::Fail;
 
 // A number that is looked up in a set of numbers.
 #[derive(Clone, Copy, Drop)]
@@ -67,17 +66,19 @@ fn sought_keys(rt: HostRuntime) {
     assert!(rt; sought.number(&salt) == salt.number(&20u64) && sought.finds(&20));
 }
 
+// Whether each number is new once, stands at its position, and is found there.
+fn has_numbers(numbers: &mut SaltedSet<u64>) -> bool {
+    numbers.insert(20) == Ok(true)
+        && numbers.insert(20) == Ok(false)
+        && numbers.insert_full(30) == Ok((1, true))
+        && numbers.insert_full(30) == Ok((1, false))
+        && numbers.get_index(1) == Some(&30)
+        && numbers.position(Number(30)) == Some(1)
+}
+
 #[test]
-fn salted_sets(rt: HostRuntime) -> Result<(), Fail> {
+fn salted_sets(rt: HostRuntime) {
     let alloc = rt.alloc();
     let mut numbers = SaltedSet::new(alloc, Salt::of(1, 2));
-    assert!(rt;
-        numbers.insert(20)?
-            && !numbers.insert(20)?
-            && numbers.insert_full(30)? == (1, true)
-            && numbers.insert_full(30)? == (1, false)
-            && numbers.get_index(1) == Some(&30)
-            && numbers.position(Number(30)) == Some(1)
-    );
-    Ok(())
+    assert!(rt; has_numbers(&mut numbers));
 }

@@ -3,8 +3,9 @@ use crate::callers::report_of;
 use erd_meaning::Report;
 use erd_shown::{
     Row, ballot_differences_lines, ballot_differences_text, ballot_text, ballots_beside_text,
-    ballots_lines, ballots_text, differing_ballots, occurrences, partners_of, rows_between,
-    rows_of, side_value_text, write_ballots_beside, write_object,
+    ballots_lines, ballots_text, contest_with_key, differing_ballots, occurrences, partners_of,
+    rows_between, rows_of, selection_value_text, side_value_text, write_ballots_beside,
+    write_object,
 };
 use erd_tables::{Family, Role};
 use erd_text::Output;
@@ -127,6 +128,22 @@ fn values_are(rt: &impl Abort, alloc: Global, report: &Report) -> Result<(), Fai
     assert!(rt; record.ok_or("no contest")?.as_str() == CONTEST_RECORD);
     let selections = side_value_text(alloc, report, contest, key, Some("ContestSelection"))?;
     assert!(rt; selections.is_none());
+    Ok(())
+}
+
+// The record of the write-in line of the contest.
+const WRITE_IN: &str =
+    r#"{"class":"ElectionResults.CandidateSelection","members":{"IsWriteIn":true}}"#;
+
+fn values_inside_are(rt: &impl Abort, alloc: Global, report: &Report) -> Result<(), Fail> {
+    let key = report.key_at(Family::Contest, 0);
+    assert!(rt; contest_with_key(report, key) == Some(0));
+    let contest = contest_with_key(report, key);
+    let (_, name) = report.selection_at(0).ok_or("no selection")?;
+    let flag = selection_value_text(alloc, report, contest, name, Some("IsWriteIn"))?;
+    assert!(rt; flag.ok_or("no flag")?.as_str() == "true");
+    let record = selection_value_text(alloc, report, contest, name, None)?;
+    assert!(rt; record.ok_or("no record")?.as_str() == WRITE_IN);
     Ok(())
 }
 
@@ -301,6 +318,14 @@ fn values_by_keys(rt: HostRuntime) -> Result<(), Fail> {
     let tree = Value::from_str(alloc, BALLOT)?;
     let report = report_of(alloc, &tree)?;
     values_are(&rt, alloc, &report)
+}
+
+#[test]
+fn values_by_names(rt: HostRuntime) -> Result<(), Fail> {
+    let alloc = rt.alloc();
+    let tree = Value::from_str(alloc, BALLOT)?;
+    let report = report_of(alloc, &tree)?;
+    values_inside_are(&rt, alloc, &report)
 }
 
 #[test]

@@ -1,5 +1,5 @@
-use Rattle.erd_shown.proofs.Common.{◌||◌, ap, ap₂, ◌∙◌, family, view}
-use Rattle.erd_shown.specs.Reworded.{is_contest_reworded, true_of_named}
+use Rattle.erd_shown.proofs.Common.{◌||◌, ap₂, ◌∙◌, view}
+use Rattle.erd_shown.specs.Reworded.{is_contest_reworded}
 use Rattle.erd_shown.proofs.reworded_lines.is_contest_line_reworded.Goals as goal
 
 pub returns : goal.returns
@@ -11,5 +11,5 @@ returns c =
     let contest = is_contest_reworded π t ρ u in
     c.one_of.ensures
     ∙ ap₂ (λ x y. x || y)
-    (c.is_named-contest.ensures contest (c.deref.ensures.value ∙ c.requires.marks.contests) ∙ ap (true_of_named contest t family.Contest) c.text_at-id.ensures)
+    (c.is_named_at-contest.ensures contest (c.deref.ensures.value ∙ c.requires.marks.contests))
     c.are_selections_reworded-selections.ensures

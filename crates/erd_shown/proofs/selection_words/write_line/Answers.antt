@@ -1,7 +1,6 @@
-use Rattle.erd_shown.proofs.Common.{◌++◌, map, sym, ap, ◌∙◌, on_ok_weaker, family, view, value_tokens}
-use Rattle.erd_shown.specs.BallotWords.{in_name_order, words_at_reference, words_data}
+use Rattle.erd_shown.proofs.Common.{◌++◌, map, sym, refl, ap, ◌∙◌, on_ok_weaker, family, view, value_tokens}
+use Rattle.erd_shown.specs.BallotWords.{words_at_reference}
 use Rattle.erd_shown.specs.KeyData.{array_of}
-use Rattle.erd_shown.specs.ListedNames.{selections_named}
 use Rattle.erd_shown.proofs.MarkLists.{else_so, then_so}
 use Rattle.erd_shown.proofs.selection_words.write_line.Goals as goal
 
@@ -19,12 +18,7 @@ returns-then-lists_selections c =
 
 pub returns-else-lists_selections : goal.returns-else-lists_selections
 returns-else-lists_selections c =
-    let π = c.args.report.now.prefer in
-    let t = view c.args.report.now.tree in
-    on_ok_weaker c.write_named.result
+    on_ok_weaker c.write_all.result
     (λ wrote.
-    wrote
-    ∙ ap (λ d. c.args.out.now ++ value_tokens d)
-    (else_so _ _ _ _ (sym c.lists_selections.ensures ∙ c.if-lists_selections.false)
-    (ap (λ id. array_of (map (words_data π t family.Selection) (in_name_order π t (selections_named t id)))) c.text_at.ensures)))
-    c.write_named.ensures
+    wrote ∙ ap (λ d. c.args.out.now ++ value_tokens d) (else_so _ _ _ _ (sym c.lists_selections.ensures ∙ c.if-lists_selections.false) refl))
+    c.write_all.ensures

@@ -3,7 +3,7 @@ use Rattle.std.specs.Prelude.{Ok, Err}
 use Rattle.std.specs.List.Sorted.{IsBinarySearchResult, IsSearchInRange}
 use Rattle.std.proofs.lemmas.Fn.{always_returns_same}
 use Rattle.erd_meaning.specs.Records.{election_with_key}
-use Rattle.erd_shown.proofs.ElectionsFound.{order_at, places, searched}
+use Rattle.erd_shown.proofs.ElectionsFound.{order_at, searched}
 use Rattle.erd_shown.proofs.side_values.key_places.place_of_election.Goals as goal
 
 pub returns-in-Ok : goal.returns-in-Ok

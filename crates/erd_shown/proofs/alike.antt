@@ -1,0 +1,7 @@
+pub mod Objects
+pub mod Words
+pub mod Reworded
+pub mod Selections
+pub mod Lines
+pub mod Ballots
+pub mod Styles
