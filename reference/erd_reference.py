@@ -946,6 +946,43 @@ def shown_value(resolved, member, value):
     return value
 
 
+# PROFILE.md, 'What a voter sees': the members of the meaning that no ballot shows. 'The other members' are seen or in doubt. Beside
+# these, 'ExternalIdentifier' is unseen in every class.
+UNSEEN = {
+    'ReportingUnit': {'AuthorityIds', 'IsDistricted', 'IsMailOnly'},
+    'Party': {'LeaderPersonIds', 'PartyScopeGpUnitIds'},
+    'Coalition': {'LeaderPersonIds', 'PartyScopeGpUnitIds'},
+    'Office': {'OfficeHolderPersonIds'},
+    'Candidate': {'FileDate'},
+    'CandidateContest': {'NumberRunoff'},
+}
+
+
+def word_entries(resolved):
+    """API.md: 'an array with an entry for each unit, party, person, office, header, election, candidate and contest, in this order and
+    by rising keys'. The entries, one after another."""
+    for part in PARTS[1:-1]:
+        for thing in sorted((it for it in resolved.objects if it.family == part), key=lambda it: no_key_first(resolved.key_of(it))):
+            yield word_entry(resolved, thing)
+
+
+def word_entry(resolved, thing):
+    """API.md: '`selections` has those of a contest in the rising order of their names.'"""
+    entry = {'class': thing.value['@type'], 'key': resolved.key_of(thing), 'part': thing.family}
+    if thing.family == 'contest':
+        named = [(selection_name(resolved, it), it) for it in thing.value.get('ContestSelection', [])]
+        entry['selections'] = [{'name': name_data(name), 'words': words_of(resolved, it)} for name, it in sorted(named, key=lambda pair: pair[0])]
+    return {**entry, 'words': words_of(resolved, thing.value)}
+
+
+def words_of(resolved, value):
+    """API.md: '`words` has the members that a voter sees or may see, the carried ones too, with keys in place of references.'"""
+    unseen = UNSEEN.get(class_of(value), set()) | {'ExternalIdentifier'}
+    return {name: shown_value(resolved, member, inner) for name, member, inner in members_with_values(value)
+            if is_in_record(class_of(value), name, member, inner) and member.kind not in ('Keyed', 'Content')
+            and (member.kind == 'Carried' or name not in unseen)}
+
+
 def way_data(difference):
     """API.md on `member`: 'the name of the member that differs. Only `"member"` has it'."""
     return {'how': difference.how} if difference.member is None else {'how': difference.how, 'member': difference.member}

@@ -46,7 +46,8 @@ typedef struct told piece_of_report(const uint8_t *bytes, size_t size, const uin
 typedef struct told piece_of_pair(const uint8_t *left, size_t left_size, const uint8_t *right, size_t right_size,
                                   const uint8_t *prefer, size_t prefer_size, struct wanted *wanted, uint8_t *room,
                                   size_t room_size);
-piece_of_report erd_tell_check_piece, erd_tell_canonical_piece, erd_tell_check_data_piece, erd_tell_canonical_data_piece;
+piece_of_report erd_tell_check_piece, erd_tell_canonical_piece, erd_tell_check_data_piece, erd_tell_canonical_data_piece,
+    erd_tell_words;
 piece_of_pair erd_tell_compare_piece, erd_tell_differences, erd_tell_compare_data_piece, erd_tell_differences_data,
     erd_tell_differences_values;
 struct told erd_tell_command_line(const uint8_t *words, size_t size, uint8_t *room, size_t room_size);
@@ -75,6 +76,7 @@ enum call {
     COMPARE_DATA_PIECE,
     DIFFERENCES_DATA,
     DIFFERENCES_VALUES,
+    WORDS,
     COMMAND_LINE,
     PREPARED,
     BALLOTS,
@@ -128,6 +130,8 @@ static struct told ask_for_piece(struct question *it, uint8_t *room, size_t room
         return ask_of_pair(erd_tell_compare_data_piece, it, room, room_size);
     case DIFFERENCES_VALUES:
         return ask_of_pair(erd_tell_differences_values, it, room, room_size);
+    case WORDS:
+        return ask_of_report(erd_tell_words, it, room, room_size);
     default:
         return ask_of_pair(erd_tell_differences_data, it, room, room_size);
     }
@@ -382,15 +386,22 @@ enum erd_outcome erd_differences_values(const void *left, size_t left_size, cons
     return call_for_piece(&it, 0, piece, text, length);
 }
 
+enum erd_outcome erd_words(const void *bytes, size_t size, const char *prefer, struct erd_piece *piece, char **text,
+                           size_t *length) {
+    struct question it = question_of(WORDS, bytes_of(bytes, size), bytes_of(NULL, 0), prefer);
+    return call_for_piece(&it, 0, piece, text, length);
+}
+
 #include "list.h"
 
 struct erd_list *erd_open(enum erd_listing listing, const void *left, size_t left_size, const void *right, size_t right_size,
                           const char *prefer, size_t room) {
     static const enum call calls[] = {CHECK_PIECE,        CANONICAL_PIECE,    COMPARE_PIECE,
                                       DIFFERENCES,        CHECK_DATA_PIECE,   CANONICAL_DATA_PIECE,
-                                      COMPARE_DATA_PIECE, DIFFERENCES_DATA,   DIFFERENCES_VALUES};
+                                      COMPARE_DATA_PIECE, DIFFERENCES_DATA,   DIFFERENCES_VALUES,
+                                      WORDS};
     bool is_of_pair = listing % 4 >= ERD_LIST_COMPARE || listing == ERD_LIST_DIFFERENCES_VALUES;
-    struct erd_list *list = (unsigned)listing > ERD_LIST_DIFFERENCES_VALUES ? NULL : calloc(1, sizeof *list);
+    struct erd_list *list = (unsigned)listing > ERD_LIST_WORDS ? NULL : calloc(1, sizeof *list);
     if (list == NULL)
         return NULL;
     list->it = question_of(calls[listing], bytes_of(left, left_size),

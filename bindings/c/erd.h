@@ -1,9 +1,9 @@
 /* erd: canonical form, check and comparison of pre-election ballot definitions.
  *
- * Each call but erd_command_line takes the bytes of one report, or of two, and all but it, erd_ballot and erd_prepare do what a
- * command of `erd` does. The manual page erd(1) describes the commands, their texts and the preferred type of identifier. A call keeps no
- * state but that of the list that it is given: its result does not depend on other calls, and several threads may call at once,
- * each with lists of its own. It reads only the bytes that it is given, and never ends the program. */
+ * Each call but erd_command_line takes the bytes of one report, or of two, and all but it, erd_ballot, erd_words and erd_prepare
+ * do what a command of `erd` does. The manual page erd(1) describes the commands, their texts and the preferred type of identifier.
+ * A call keeps no state but that of the list that it is given: its result does not depend on other calls, and several threads may
+ * call at once, each with lists of its own. It reads only the bytes that it is given, and never ends the program. */
 #ifndef ERD_H
 #define ERD_H
 
@@ -149,6 +149,20 @@ enum erd_outcome erd_differences_data(const void *left, size_t left_size, const 
 enum erd_outcome erd_differences_values(const void *left, size_t left_size, const void *right, size_t right_size,
                                         const char *prefer, struct erd_piece *piece, char **text, size_t *length);
 
+/* Lists what ballots print of the objects of a report, each object once: units, parties, persons, offices, headers, elections,
+ * candidates and contests, in this order and by rising keys. The text is compact JSON in UTF-8, with no line end: an array with an
+ * entry for each object in the piece. Entries look like
+ *
+ *     {"class":"ElectionResults.Candidate","key":["local-level","","K2"],"part":"candidate","words":{"BallotName":"Bo"}}
+ *     {"class":"ElectionResults.CandidateContest","key":[..],"part":"contest","selections":[{"name":[..],"words":{..}}],"words":{..}}
+ *
+ * in which `words` has the members that ballots print, or may print, with keys in place of references: the table "What a voter sees"
+ * of docs/PROFILE.md. A contest has all of its `selections`, by the names that erd_ballot tells, in rising order. So an entry can
+ * grow with the square of the size of the report, and a piece ends behind the entry that reaches `enough_bytes`. If the report is
+ * refused, the text is that of erd_check_data_piece. */
+enum erd_outcome erd_words(const void *bytes, size_t size, const char *prefer, struct erd_piece *piece, char **text,
+                           size_t *length);
+
 /* What a list has: the pieces that the call of this name answers with, one behind the other. The numbers begin with 0. */
 enum erd_listing {
     ERD_LIST_CHECK,              /* erd_check_piece */
@@ -159,7 +173,8 @@ enum erd_listing {
     ERD_LIST_CANONICAL_DATA,     /* erd_canonical_data_piece */
     ERD_LIST_COMPARE_DATA,       /* erd_compare_data_piece */
     ERD_LIST_DIFFERENCES_DATA,   /* erd_differences_data */
-    ERD_LIST_DIFFERENCES_VALUES  /* erd_differences_values */
+    ERD_LIST_DIFFERENCES_VALUES, /* erd_differences_values */
+    ERD_LIST_WORDS               /* erd_words */
 };
 
 /* A list that erd_open opens, erd_next hands out piece by piece, and erd_close frees. A call for a piece judges its reports each

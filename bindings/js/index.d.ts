@@ -19,6 +19,11 @@ export interface DifferencesOptions extends Preference {
     mostDifferences?: number | null;
 }
 
+export interface WordsOptions extends Preference {
+    /** The most entries that are listed, or the most faults of a refused report, as `mostFaults` says for faults. */
+    mostEntries?: number | null;
+}
+
 /** One fault of a report. */
 export interface Fault {
     /** The way from the root of the report: names of members, and positions in arrays, counted from 0. */
@@ -218,6 +223,29 @@ export class BallotsBeside extends Checked {
     } | null;
 }
 
+/** What ballots print of one object. Keys stand in place of references. */
+export interface ObjectWords {
+    readonly part: 'unit' | 'party' | 'person' | 'office' | 'header' | 'election' | 'candidate' | 'contest';
+    /** The key of the object; null for a sole election without external identifiers. */
+    readonly key: Key | null;
+    /** The `@type` of the object. */
+    readonly class: string;
+    /** Its members that ballots print, or may print: docs/PROFILE.md, "What a voter sees". */
+    readonly words: { readonly [name: string]: Json };
+    /** The selections of a contest, in the rising order of their names. Other objects have none. */
+    readonly selections?: readonly { readonly name: SelectionName; readonly words: { readonly [name: string]: Json } }[];
+}
+
+/** What ballots print of the objects of a report, or why nothing is listed. */
+export class WordList extends Checked {
+    /** One for each object: part by part, and by rising keys. */
+    readonly entries: ObjectWords[];
+    /** How many objects there are. */
+    readonly allEntries: number;
+    /** Whether there are more entries, or more faults, than are listed. */
+    readonly more: boolean;
+}
+
 /** A command, by what it does. */
 export type Command = 'check' | 'canon' | 'compare' | 'differences';
 
@@ -275,6 +303,11 @@ export class Erd {
     ballots(report: Report, options?: Options): Ballots;
     /** Tells the ballot of the style at a position of a report, as `ballots` tells it. It throws as `ballots` does. */
     ballot(report: Report, position: number, options?: Options): OneBallot;
+    /**
+     * Lists what ballots print of the objects of a report, each object once. `ballot` tells a ballot by the keys and names of these
+     * entries. It throws as `ballots` does.
+     */
+    words(report: Report, options?: WordsOptions): WordList;
     /**
      * Tells which ballots are not the same in two reports: in their lines, their voters, or the words of contests, headers, candidates
      * and parties. `differences` tells what differs. It throws as `ballots` does.

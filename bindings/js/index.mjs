@@ -1,6 +1,7 @@
 // erd: canonical form, check and comparison of pre-election ballot definitions.
 import { Erd } from './lib/calls.mjs';
 
+export { WordList } from './lib/ballot_words.mjs';
 export { BallotDifferences, Ballots, BallotsBeside, OneBallot } from './lib/ballots.mjs';
 export { Erd, MOST_BYTES, MOST_LISTED, NoMemoryError, TooLongError } from './lib/calls.mjs';
 export { TrapError } from './lib/engine.mjs';

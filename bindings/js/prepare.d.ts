@@ -3,8 +3,11 @@ import { Compared, Erd, Options } from './index.js';
 /** A step, in the order in which they are done. */
 export interface Step {
     name: string;
-    /** `removed`: no ballot has it. `filled-in`: what a voter sees stays as it is. `visible`: a voter sees another ballot. */
-    group: 'removed' | 'filled-in' | 'visible';
+    /**
+     * `removed`: no ballot has it. `filled-in`: what a voter sees stays as it is. `visible`: a voter sees another ballot. `view`: it leaves
+     * out what a comparison is to pass over.
+     */
+    group: 'removed' | 'filled-in' | 'visible' | 'view';
     title: string;
     /** What it does. */
     does: string;

@@ -11,7 +11,7 @@ _erd_options() {
 _erd_values() {
     case $1 in
     --prefer) values='fips local-level national-level ocd-id other state-level' ;;
-    --steps) values='removed filled-in visible' ;;
+    --steps) values='removed filled-in visible view' ;;
     *) return 1 ;;
     esac
 }

@@ -10,7 +10,7 @@ complete -c erd -n '__fish_seen_subcommand_from prepare' -l list \
     -d 'list what each step would do, and write no report'
 complete -c erd -n '__fish_seen_subcommand_from prepare' -l report \
     -d 'answer with each change as JSON on one line, in place of the prepared report'
-complete -c erd -n '__fish_seen_subcommand_from prepare' -l steps -x -a 'removed filled-in visible' \
+complete -c erd -n '__fish_seen_subcommand_from prepare' -l steps -x -a 'removed filled-in visible view' \
     -d 'the steps to do: names of steps or groups, with commas between them'
 
 # Whether another file may be named: one by check, canon and prepare, and two by compare, differences and ballots.

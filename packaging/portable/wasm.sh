@@ -31,7 +31,7 @@ done
 from_c bindings/c/erd.c "$parts/wide.ll" "${wide[@]}"
 # What only these calls need is made small, since the page must have less than a megabyte.
 python3 packaging/portable/wasm/small.py erd_tell_command_line erd_tell_prepared erd_tell_ballots erd_tell_ballot \
-    erd_tell_ballot_differences erd_tell_ballots_beside erd_tell_differences_values < "$parts/proved.ll" > "$parts/small.ll"
+    erd_tell_ballot_differences erd_tell_ballots_beside erd_tell_differences_values erd_tell_words < "$parts/proved.ll" > "$parts/small.ll"
 proved_for wasm "$parts/small.ll" "$parts/proved_wasm.ll"
 take_profile
 compiled proved_wasm "${profile[@]}" -Wno-override-module -x ir "$parts/proved_wasm.ll"

@@ -2,8 +2,8 @@
 
 An entry of a list is a mode, an owner in a tar, and a path; a folder ends with a slash, and a link has its target. In a list @VERSION@
 stands for the version, @MACHINE@ for a processor and @LIBRARY@ for the library of a wheel. What the licences ask for has the bytes that it has
-here, and no file is empty. With --write the lists are written anew, to be looked at as a change. One line a case that fails, and at the end
-the counts.
+here, no file is empty, and a wheel needs no newer C library than its name says. With --write the lists are written anew, to be looked at as
+a change. One line a case that fails, and at the end the counts.
 """
 import io
 import pathlib
@@ -67,6 +67,14 @@ def is_of_case(name):
     return name.count('/') >= 2 or (ROOT / 'out' / 'conformance' / name.split('/')[-1] / 'why').exists()
 
 
+def too_old(path, entries):
+    """Which version of the C library a wheel needs, if its name promises that an older one is enough."""
+    promised = re.search(r'manylinux_(\d+)_(\d+)_', path.name)
+    named = [found for _, place, data in entries if place.endswith('.so.0') for found in re.findall(rb'GLIBC_(\d+)\.(\d+)', data)]
+    needed = [tuple(map(int, one)) for one in named]
+    return '' if promised is None or max(needed) <= tuple(map(int, promised.groups())) else f'GLIBC_{max(needed)}'
+
+
 def cases(paths, is_writing):
     for path in paths:
         name = list_of(path)
@@ -79,6 +87,7 @@ def cases(paths, is_writing):
         if is_writing:
             kept.write_text(found, encoding='utf-8')
         yield f'{path.name}: its files', kept.read_text(encoding='utf-8'), found
+        yield f'{path.name}: it runs where its name says', '', too_old(path, entries)
         yield f'{path.name}: no file is empty', '', '\n'.join(place for _, place, data in entries if data == b'' and not place.endswith(EMPTY))
         for asked in ASKED_FOR:
             here = (ROOT / asked).read_bytes()

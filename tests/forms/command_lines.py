@@ -21,6 +21,9 @@ import sys
 import tempfile
 
 TOP = pathlib.Path(__file__).resolve().parents[2]
+sys.path.append(str(TOP / 'tests' / 'shared'))
+from cases import tell  # noqa: E402
+
 TABLES = [TOP / 'tests' / 'forms' / name for name in ('command_lines.txt', 'statuses.txt')]
 RULES = ('name', 'command', 'for', 'words', 'env', 'input', 'file', 'streams', 'status', 'out', 'err', 'not', 'only')
 HANDLES = {'in': 0, 'out': 1, 'err': 2}
@@ -216,6 +219,17 @@ def wrong(case, run, earlier):
     return '; '.join(filter(None, [status, *streams]))
 
 
+def tried(cases, before, command, beside):
+    """Each case, and what is wrong with what the command does there."""
+    earlier = {}
+    for case in cases:
+        run = earlier[case.name] = ran(command, case)
+        why = wrong(case, run, earlier)
+        if beside and 'only' not in case.rules and not why and ran([beside], case) != run:
+            why = 'the program writes other bytes'
+        yield before + case.name, why
+
+
 def main(words):
     beside = os.path.abspath([words.pop(1) for _ in range(2)][1]) if words[1:2] == ['--beside'] else None
     name = [words.pop(1) for _ in range(2)][1] if words[1:2] == ['--command'] else 'erd'
@@ -224,17 +238,7 @@ def main(words):
     if not has_disks():
         print(f"skipped {form}: a full disk: unshare and mount may not run here")
         cases = [case for case in cases if 'disk' not in case.streams.values()]
-    earlier, counts = {}, [0, 0]
-    for case in cases:
-        run = ran(command, case)
-        earlier[case.name] = run
-        why = wrong(case, run, earlier)
-        if beside and 'only' not in case.rules and not why and ran([beside], case) != run:
-            why = 'the program writes other bytes'
-        counts[bool(why)] += 1
-        print(f"{'FAILED ' if why else 'ok     '} {form}{': ' if form else ''}{case.name}{': ' if why else ''}{why}", flush=True)
-    print(f'{counts[0]} passed, {counts[1]} failed')
-    return int(counts[1] > 0)
+    return tell(tried(cases, f'{form}: ' if form else '', command, beside))
 
 
 if __name__ == '__main__':

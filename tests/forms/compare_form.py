@@ -20,9 +20,10 @@ ROOT = pathlib.Path(__file__).resolve().parents[2]
 sys.dont_write_bytecode = True
 sys.path.insert(0, str(ROOT / 'tests' / 'program'))
 from agrees_with_reference import EXAMPLES, cases  # noqa: E402
+from cases import tell  # noqa: E402
 
 MOST_SECONDS = 600
-STEPS = 'removed,filled-in,visible'
+STEPS = 'removed,filled-in,visible,view'
 
 
 def suite():
@@ -137,29 +138,28 @@ def answers_of(command, questions):
     return answers
 
 
+def compared(name, kind, questions, answers):
+    """The first calls whose answers differ, each a case, or one case for all of them."""
+    differences = list(filter(None, (question.what_differs(*answer) for question, answer in zip(questions, answers))))
+    if len(answers) != len(questions):
+        differences.append(f'the answers: {len(answers)} to {len(questions)} calls')
+    for difference in differences[:3]:
+        case, _, why = difference.partition(': ')
+        yield f'{name}: {case}', why
+    if not differences:
+        yield f'{name}: {len(questions)} calls, {kind}', ''
+
+
 def main():
     program, native, pairs, seed, folder, name, *command = sys.argv[1:]
     of_suite = of_the_suite()
     of_random = of_random_reports(program, int(pairs), int(seed), pathlib.Path(folder))
-    passed = failed = 0
-    for kind, questions in [
+    return tell(case for kind, questions in [
         ('the suite', of_suite),
         (f'random reports and pairs, seed {seed}', of_random),
         ('answers as data', as_data(native, of_suite + of_random)),
         ('what is prepared', prepared(native, of_suite + of_random)),
-    ]:
-        answers = answers_of(command, questions)
-        differences = [question.what_differs(*answer) for question, answer in zip(questions, answers)]
-        differences = [difference for difference in differences if difference]
-        if len(answers) != len(questions):
-            differences.append(f'{len(answers)} answers to {len(questions)} calls')
-        for difference in differences[:3]:
-            print(f'FAILED  {name}: {difference}')
-        if not differences:
-            print(f'ok      {name}: {len(questions)} calls, {kind}')
-        passed, failed = passed + (not differences), failed + bool(differences)
-    print(f'{passed} passed, {failed} failed')
-    return 1 if failed else 0
+    ] for case in compared(name, kind, questions, answers_of(command, questions)))
 
 
 if __name__ == '__main__':

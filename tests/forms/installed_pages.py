@@ -1,7 +1,7 @@
 """Holds what installed pages name against what is installed: `installed_pages.py FOLDER` looks into the folder of the
 installed documents.
-A file or folder of the repository that a page or a script there names is in that folder too. One line a case that fails, and
-at the end the counts.
+A file or folder of the repository that a page or a script there names is in that folder too, and a link to a part of a page still leads to
+that part. One line a case that fails, and at the end the counts.
 """
 
 import pathlib
@@ -25,6 +25,18 @@ def named(text):
     yield from re.findall(rf'(?<![\w./-])((?:{"|".join(FOLDERS)})/[\w./-]*\w)', text)
 
 
+def links(text):
+    """Each link of a page: its words, the page that it leads to, and the part of it."""
+    return [(words, target.split('/')[-1], part) for words, target, part in re.findall(r'\[([^\]]*)\]\(([^)#:]*)(#[^)]*)?\)', text)]
+
+
+def lost_parts(page, source):
+    """The links of a page of the repository to a part of a page that lead to another place where it is installed."""
+    found = links(page.read_text(encoding='utf-8'))
+    led = {(words, name) for words, name, _ in found}
+    return [link for link in links(source.read_text(encoding='utf-8')) if link[2] and link[:2] in led and link not in found]
+
+
 def cases(folder):
     pages = sorted(path for path in folder.rglob('*') if path.is_file() and path.suffix in ('.md', '.sh', '.yml', ''))
     for page in pages:
@@ -36,6 +48,8 @@ def cases(folder):
             if known and not any((folder / way).exists() for way in known):
                 missing.add(name)
         yield f'what {place} names', [], sorted(missing)
+        if page.suffix == '.md' and (ROOT / place).exists():
+            yield f'the parts that {place} leads to', [], lost_parts(page, ROOT / place)
     yield 'there are pages', True, len(pages) > 5
 
 

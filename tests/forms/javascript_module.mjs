@@ -2,6 +2,7 @@
 // each case that fails; at the end stand the counts.
 import { existsSync, readdirSync, readFileSync } from 'node:fs';
 import { load, MOST_BYTES, NoMemoryError, repeatedNames, TooLongError, TrapError } from '../../bindings/js/index.mjs';
+import { statusOf } from '../../bindings/js/lib/ending.mjs';
 import { compactText } from '../../bindings/js/lib/exact.mjs';
 import { comparePrepared, lineOfRemedy, Preparation, remedyOf, STEPS, stepsOf, told } from '../../bindings/js/lib/prepare/prepared.mjs';
 import { compactText as treeText, readTree } from '../../bindings/js/lib/tree.mjs';
@@ -264,6 +265,13 @@ const poor = await load(withMostPages(readFileSync(new URL('../../out/portable/e
 const large = Buffer.concat([Buffer.from('['), Buffer.alloc(PAGES * 60_000, '0,'), Buffer.from('0]')]);
 throws('no memory for the bytes', NoMemoryError, () => poor.check(new Uint8Array(PAGES * 65_536)));
 throws('no memory to read them', NoMemoryError, () => poor.check(large.subarray(0, PAGES * 20_000)));
+// How a command ends that could not judge: never as one that has refused a file.
+const endings = [new NoMemoryError(), new RangeError('Invalid typed array length'), new TooLongError(), new Error('odd')];
+const statuses = [];
+for (const error of endings) {
+    statuses.push(await statusOf(() => { throw error; }));
+}
+equal('the statuses of commands that fail', statuses.join(' '), '4 4 3 3');
 equal('a call after that', poor.canonical(bytes).text, form);
 equal('the same call with memory', erd.check(large).outcome, 'refused');
 // A call that traps leaves its instance behind, and the next one begins with another. A call that ends well keeps its own.
@@ -296,6 +304,11 @@ equal('a call after a trap', trapping.check(bytes).outcome, 'accepted');
 equal('another instance after a trap', instances, 2);
 WebAssembly.Instance = real;
 
+// A list that is longer than a piece: all of it, each entry once.
+const manyFaults = new TextEncoder().encode(`{"Odd":[${Array(60_000).fill('1.5')}],${accepted.toString().trim().slice(1)}`);
+const everyFault = erd.check(manyFaults, { mostFaults: null }).faults.filter(({ reason }) => reason === 4).map(({ place }) => place[1]);
+equal('all faults of a list that is longer than a piece', everyFault.every((position, at) => position === at) && everyFault.length, 60_000);
+
 // The steps that prepare a copy: the report, the names, the copy, and what is told.
 const REPORT = '"@type":"ElectionResults.ElectionReport"';
 const NULL_NOTES = { step: 'nulls', done: true, count: 1, changes: [{ pointer: '/Notes', before: 'null', after: null }], left_count: 0, left: [], more: false };
@@ -321,6 +334,11 @@ const others = new Preparation(encoder.encode(`\ufeff{"Notes":null,${REPORT}}`),
 equal('prepared: what other steps would do', others.steps.map((step) => `${step.name} ${step.done} ${step.count}`).join(), 'byte-order-mark false 1,nulls false 1');
 const aLongList = new Preparation(encoder.encode(`{${REPORT},"a":[${Array(1500).fill('{"x":null}')}]}`), erd).prepare(['nulls']).steps;
 equal('prepared: a long list', aLongList.map(({ made, count, more }) => `${made.length} ${count} ${more}`).join(), '1000 1500 true');
+const isCounted = `{"@type":"ElectionResults.CandidateSelection","VoteCounts":[{"@type":"ElectionResults.VoteCounts","Count":1}]}`;
+const withCounts = `{${REPORT},"Election":[{"@type":"ElectionResults.Election","Contest":[{"@type":"ElectionResults.CandidateContest",`
+    + `"ContestSelection":[${Array(1001).fill(isCounted)}]}]}]}`;
+equal('prepared: of what is left a thousand places, and how many there are', new Preparation(encoder.encode(withCounts), erd).prepare(['counts']).steps
+    .map(told).map(({ step, count, left_count: all, left, more }) => `${step} ${count} ${all} ${left.length} ${more}`).join(), 'counts 0 1001 1000 true');
 equal('prepared: what to do about a fault that is left', JSON.stringify([11, 16].map((reason) => remedyOf(reason).steps)), '[["repeated"],[]]');
 equal('prepared: the line about a reason that is left', lineOfRemedy(11),
     'reason 11 (repeated): steps that may fix it: repeated; otherwise ask the vendor: Write each entry of a set once. If another one was meant, write that.');
@@ -329,7 +347,12 @@ equal('prepared: the line about a reason that no step fixes', lineOfRemedy(9),
 const ofPage = JSON.parse(readFileSync(new URL('../../web/texts.en.json', import.meta.url)));
 equal('prepared: the words of the page', JSON.stringify(STEPS.map(({ title, does, loses }) => [title, does, loses])),
     JSON.stringify(STEPS.map(({ name }) => ['', '.does', '.loses'].map((part) => ofPage[`step.${name}${part}`]))));
-equal('prepared: the steps', STEPS.every(({ group, title, does, loses }) => [group, title, does, loses].every((text) => text.length > 5)), true);
+equal('prepared: the groups of steps', [...new Set(STEPS.map(({ group }) => group))].sort().join(), 'filled-in,removed,view,visible');
+equal('prepared: the steps that no ballot shows', stepsOf('removed').join(),
+    'byte-order-mark,nulls,unused-ids,outside,counts,devices,coordinates,stray-ids,unused-persons,empty-lists,empty-texts');
+equal('prepared: those that change what a voter sees, and those of a view', `${stepsOf('visible')} ${stepsOf('view')}`,
+    'gone-candidates,unused-styles unseen,false-flags,other-codes');
+equal('prepared: the steps', STEPS.every(({ title, does, loses }) => [title, does, loses].every((text) => text.length > 5)), true);
 const nulled = (name) => encoder.encode(accepted.toString().replace('"Name":"Test"', `"Name":"${name}","OtherType":null`));
 for (const [name, names, wanted] of [['Test', ['nulls'], 'same\n'], ['Other', ['nulls'], 'election: member "Name"\n'], ['Test', [], 'left: /Election/0/OtherType: wrong kind\n']]) {
     const { compared, left, right } = comparePrepared(nulled('Test'), nulled(name), names.values(), erd);
@@ -394,6 +417,22 @@ equal('ballots: beside a refused one', (({ side, outcome, ballots }) => [side, o
 equal('ballots: the contest with other words', [...new Set(erd.ballotDifferences(county, JSON.stringify(votes)).differences.map(({ below }) => below.join()))].join(),
     '  changed contest ["local-level","","C-SCHOOL"]');
 equal('ballots: the right report is refused', erd.ballotDifferences(county, '{').text, 'right: not JSON\n');
+// The words: of each object once, and the selections of each contest under the names that ballots have.
+const worded = erd.words(county, { mostEntries: null });
+const wordsAt = (part, value) => worded.entries.find((entry) => entry.part === part && entry.key?.[2] === value);
+equal('words: all are there', worded.entries.length, worded.allEntries);
+equal('words: none is there twice', new Set(worded.entries.map(({ part, key }) => JSON.stringify([part, key]))).size, worded.allEntries);
+equal('words: of each part', [...new Set(worded.entries.map(({ part }) => part))].join(), 'unit,party,person,office,header,election,candidate,contest');
+const nameOf = (label) => (typeof label === 'string' ? label : label.Text.map(({ Language, Content }) => `${Language} ${Content}`).sort().join());
+equal('words: of each candidate', JSON.parse(county).Election[0].Candidate
+    .filter((candidate) => nameOf(wordsAt('candidate', codeOf(candidate)).words.BallotName) !== nameOf(candidate.BallotName)).map(codeOf).join(), '');
+const contestLines = erd.ballot(county, heads[0].position).ballot.lines.filter(({ what, isListed }) => what === 'contest' && !isListed);
+equal('words: the names of selections', contestLines.every(({ key, selections }) =>
+    JSON.stringify(selections) === JSON.stringify(wordsAt('contest', key[2]).selections.map(({ name }) => name))), true);
+equal('words: the first', (({ entries, more }) => `${entries.length} ${more}`)(erd.words(county, { mostEntries: 2 })), '2 true');
+equal('words: of a refused report', (({ outcome, entries, faults }) => [outcome, entries.length, faults.length > 0].join())(erd.words('{}')), 'refused,0,true');
+equal('words: of no JSON', erd.words('{').text, 'not JSON\n');
+throws('words: no option of another call', TypeError, () => erd.words(county, { mostFaults: 1 }));
 throws('ballots: no position', TypeError, () => erd.ballot(county, -1));
 
 equal('the code of TrapError', new TrapError(new Error('why')).code, 'TRAP');

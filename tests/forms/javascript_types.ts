@@ -39,6 +39,8 @@ const letters: string[] = [remedyOf(8).letter, ...remedyOf(8).steps, lineOfRemed
 const lengths: number[] = [prepared.bytes.length, letters.length, ...prepared.steps.map((step) => told(step).changes.length)];
 const positions: number[] = erd.ballots('').ballots.map((ballot) => ballot.position);
 const depths: number[] = erd.ballot('', 0)?.ballot?.lines.map((line) => line.depth) ?? [];
+const printed: ['unit' | 'party' | 'person' | 'office' | 'header' | 'election' | 'candidate' | 'contest', string | undefined][] =
+    erd.words('', { mostEntries: 1 }).entries.map((entry) => [entry.part, entry.selections?.[0]?.name[0]]);
 const ways: ('only left' | 'only right' | 'differs')[] = erd.ballotDifferences('', '').differences.map((ballot) => ballot.how);
 const rows: [string, number | null, string[]][] = (erd.ballotsBeside('', '', 0, 0).ballots?.rows ?? [])
     .map((row) => [row.how, row.left, row.selections.map((selection) => selection.name[0])]);

@@ -12,7 +12,7 @@ from texts_of_data import check_text, compact, compare_text  # noqa: E402
 TEXTLESS = 3
 # The calls whose lists can be opened, by their numbers in `enum erd_listing`.
 LISTINGS = ("erd_check_piece", "erd_canonical_piece", "erd_compare_piece", "erd_differences", "erd_check_data_piece",
-            "erd_canonical_data_piece", "erd_compare_data_piece", "erd_differences_data", "erd_differences_values")
+            "erd_canonical_data_piece", "erd_compare_data_piece", "erd_differences_data", "erd_differences_values", "erd_words")
 
 
 class Piece(ctypes.Structure):

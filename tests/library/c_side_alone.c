@@ -12,12 +12,12 @@ static const uint8_t *last_prefer;
 static int last_call;
 static const char *why;
 
-enum { SIZE = 1000, FIRST_OF_PIECES = 5, BALLOTS_CALL = 14, BALLOT_CALL, BALLOT_DIFFERENCES_CALL, BALLOTS_BESIDE_CALL, CALLS, LINE = CALLS, PREPARE,
+enum { SIZE = 1000, FIRST_OF_PIECES = 5, BALLOTS_CALL = 15, BALLOT_CALL, BALLOT_DIFFERENCES_CALL, BALLOTS_BESIDE_CALL, CALLS, LINE = CALLS, PREPARE,
        POSITION = 23, OTHER_POSITION = 29, MEBIBYTE = 1048576, ROOM_OF_MEBIBYTE = MEBIBYTE + MEBIBYTE / 16 + 4096 };
 static const char *const names[CALLS + 2] = {"check",      "canonical",        "compare",            "check_data",
                                              "compare_data", "check_data_piece", "compare_data_piece", "canonical_data_piece",
                                              "differences_data", "check_piece", "compare_piece", "canonical_piece",
-                                             "differences", "differences_values", "ballots", "ballot", "ballot_differences", "ballots_beside",
+                                             "differences", "differences_values", "words", "ballots", "ballot", "ballot_differences", "ballots_beside",
                                              "command_line", "prepare"};
 static const char report[SIZE];
 
@@ -109,6 +109,7 @@ OF_PAIR(erd_tell_compare_piece, 10)
 OF_REPORT(erd_tell_canonical_piece, 11)
 OF_PAIR(erd_tell_differences, 12)
 OF_PAIR(erd_tell_differences_values, 13)
+OF_REPORT(erd_tell_words, 14)
 
 static size_t last_position;
 
@@ -178,8 +179,10 @@ static enum erd_outcome asked_for_piece(int call, struct bytes it, const char *p
         return erd_canonical_piece(it.at, it.size, prefer, piece, text, length);
     case 12:
         return erd_differences(it.at, it.size, it.at, it.size, prefer, piece, text, length);
-    default:
+    case 13:
         return erd_differences_values(it.at, it.size, it.at, it.size, prefer, piece, text, length);
+    default:
+        return erd_words(it.at, it.size, prefer, piece, text, length);
     }
 }
 

@@ -1,5 +1,6 @@
 """The list of all differences of two reports as the calls of the C library have to answer with it, made by the reference program
 (reference/erd_reference.py), and pieces of it by the rules of docs/API.md."""
+import json
 import pathlib
 import sys
 
@@ -67,6 +68,12 @@ def taken(texts, most, enough_bytes):
         shown.append(text)
         size += len(text.encode('utf-8'))
     return shown
+
+
+def worded(report, prefer):
+    """The list of what ballots print of a report, from its bytes; None if it is refused."""
+    resolved = erd_reference.answer_of(report, prefer)[2]
+    return None if resolved is None else [json.loads(erd_reference.compact_text(entry)) for entry in erd_reference.word_entries(resolved)]
 
 
 def listed(left, right, prefer):

@@ -70,6 +70,7 @@ OF_REPORT(erd_tell_check_piece, false)
 OF_REPORT(erd_tell_canonical_piece, false)
 OF_REPORT(erd_tell_check_data_piece, true)
 OF_REPORT(erd_tell_canonical_data_piece, true)
+OF_REPORT(erd_tell_words, true)
 OF_PAIR(erd_tell_compare_piece, false)
 OF_PAIR(erd_tell_differences, false)
 OF_PAIR(erd_tell_compare_data_piece, true)
@@ -177,7 +178,7 @@ static void long_list(void) {
 }
 
 int main(void) {
-    for (int listing = ERD_LIST_CHECK; listing <= ERD_LIST_DIFFERENCES_VALUES; listing++) {
+    for (int listing = ERD_LIST_CHECK; listing <= ERD_LIST_WORDS; listing++) {
         bool is_data = listing >= ERD_LIST_CHECK_DATA;
         for (int form = 0; form < 2; form++) {
             has_side = is_data && form == 1;
@@ -193,7 +194,7 @@ int main(void) {
     }
     long_list();
     erd_close(NULL);
-    said(erd_open((enum erd_listing)9, "", 0, "", 0, NULL, 0) == NULL ? NULL : "it was opened", (enum erd_listing)9, "another number");
+    said(erd_open((enum erd_listing)10, "", 0, "", 0, NULL, 0) == NULL ? NULL : "it was opened", (enum erd_listing)10, "another number");
     printf("%u passed, %u failed\n", passed, failed);
     return failed != 0;
 }

@@ -9,7 +9,8 @@ import sys
 from typing import NamedTuple, Optional
 
 from by_ctypes import Library, both
-from listed import ALL, listed as list_of
+from cases import tell
+from listed import ALL, listed as list_of, worded
 from texts_of_data import check_text, compact, compare_text, difference_line, differences_text, fault_line
 
 FOLDER = os.path.join(os.path.dirname(os.path.abspath(__file__)), os.pardir, os.pardir, "conformance")
@@ -51,7 +52,7 @@ def failure_of_pieces(library, command, case, suite, prefer):
         if outcome != 0:
             lists.append(List("erd_canonical", reports, prefer, outcome, wanted, check_text(wanted)))
         why = failure_of_form(library, reports[0], prefer) if outcome == 0 else None
-        return why or failure_of_lists(library, lists)
+        return why or failure_of_words(library, reports, prefer, outcome, wanted) or failure_of_lists(library, lists)
     reports = [suite.contents(case, it) for it in ("left.json", "right.json")]
     outcome, text = library.compare_data(*reports, prefer)
     wanted = json.loads(text)
@@ -93,6 +94,15 @@ def failure_of_entries(library, reports, prefer):
             if answer != wanted:
                 return f"{name} of {bounds}: {answer}, and not {wanted}"
     return None
+
+
+def failure_of_words(library, reports, prefer, outcome, judged):
+    """What is wrong in the list of what ballots print, held against that of the reference program, or None. A refused report has the
+    list of its faults."""
+    wanted = worded(*reports, None if prefer is None else prefer.decode()) if outcome == 0 else judged
+    it = List("erd_words", reports, prefer, outcome, wanted, "")
+    sorted_text = lambda value: compact(json.loads(json.dumps(value, sort_keys=True)))  # noqa: E731
+    return failure_of_list(library, it, it.call, sorted_text, lambda text, shown: text == sorted_text(it.json_of(shown)))
 
 
 def failure_of_form(library, report, prefer):
@@ -194,15 +204,8 @@ def bounds_of(sizes):
 
 
 def main():
-    library, suite, failed = Library(sys.argv[1]), suite_module(), 0
-    cases = suite.cases_of(suite.suite())
-    for case in cases:
-        why = failure_of(library, suite, case)
-        if why:
-            failed += 1
-            print(f"FAILED  {os.path.basename(case)}: {why}")
-    print(f"{len(cases) - failed} passed, {failed} failed")
-    return failed != 0
+    library, suite = Library(sys.argv[1]), suite_module()
+    return tell(((os.path.basename(case), failure_of(library, suite, case)) for case in suite.cases_of(suite.suite())), is_brief=True)
 
 
 sys.exit(main())

@@ -1,4 +1,5 @@
 // The calls, on top of the module.
+import { wordsOf } from './ballot_words.mjs';
 import { BallotDifferences, Ballots, BallotsBeside, OneBallot } from './ballots.mjs';
 import { Engine, LINE, OUTCOME } from './engine.mjs';
 import { readExactly } from './exact.mjs';
@@ -105,6 +106,13 @@ export class Erd {
         return new OneBallot(checked, checked.accepted ? this.toldOfBallots('erd_ballot', [bytes], options, position) : null);
     }
 
+    /** Lists what ballots print of the objects of a report, each object once. */
+    words(report, options) {
+        const asked = askedFor(options, 'mostEntries');
+        const { outcome, taken, all } = this.#list('erd_words', [bytesOf(report, 'the report')], asked);
+        return wordsOf(outcome === OUTCOME.good, taken, all);
+    }
+
     /** Tells which ballots are not the same in two reports. */
     ballotDifferences(left, right, options) {
         const reports = pairOf(left, right);
@@ -204,6 +212,15 @@ export class Erd {
         const { prefer } = askedFor(options, 'mostDifferences');
         for (const { taken, all } of this.#pieces('erd_differences_data', pairOf(left, right), prefer, readExactly)) {
             yield differencesOf(taken, all);
+        }
+    }
+
+    /** What ballots print of the objects of an accepted report, piece by piece: the entries of each, and how many bytes they have. */
+    *wordsByPieces(report, options) {
+        const { prefer } = askedFor(options, 'mostEntries');
+        const take = (bytes) => ({ entries: readExactly(bytes), size: bytes.length });
+        for (const { taken } of this.#pieces('erd_words', [bytesOf(report, 'the report')], prefer, take)) {
+            yield taken;
         }
     }
 

@@ -10,7 +10,7 @@ const NO_MEMORY = { outcome: OUTCOME.noMemory, taken: undefined, told: 0, all: 0
 
 // The calls for a piece of a list, in the order of `enum erd_listing` of erd.h.
 const LISTINGS = ['erd_check_piece', 'erd_canonical_piece', 'erd_compare_piece', 'erd_differences', 'erd_check_data_piece',
-    'erd_canonical_data_piece', 'erd_compare_data_piece', 'erd_differences_data', 'erd_differences_values'];
+    'erd_canonical_data_piece', 'erd_compare_data_piece', 'erd_differences_data', 'erd_differences_values', 'erd_words'];
 
 // An open list keeps so many bytes of what was judged: some for each byte of the reports, as a judging itself takes, and never more
 // than the last number. Reports are judged once for so much of a list.

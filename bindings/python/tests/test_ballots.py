@@ -218,3 +218,59 @@ def test_command_for_what_is_refused(top, tmp_path):
     assert run(none, bad) == (2, 'left: not JSON\n', '')
     status, out, _ = run('--json', good, bad)
     assert (status, json.loads(out)['refused']) == (1, 'right')
+
+
+# Members of these reports that the standard has and the member table has not: ballots may show them.
+CARRIED = {'Color', 'Term'}
+# The members that an entry of the list of words may have, for objects of the examples: what ballots print, by docs/PROFILE.md.
+SEEN = {'Candidate': {'BallotName', 'PartyId', 'CampaignSlogan', 'IsIncumbent', 'IsTopTicket', 'PersonId', 'PreElectionStatus'},
+        'Party': {'Name', 'Abbreviation', 'Slogan'}, 'Header': {'Name'},
+        'Election': {'Name', 'StartDate', 'EndDate', 'Type', 'OtherType', 'ElectionScopeId'},
+        'Office': {'Name', 'Description', 'ElectionDistrictId', 'IsPartisan'}}
+
+
+def test_the_words_of_each_object(report):
+    """Each object is there once, its words are members of it, and ballots name the selections of a contest as its entry does."""
+    whole = json.loads(report)
+    holders = [whole, *whole['Election']]
+    found = erd.words(report, most_entries=None)
+    assert found and not found.more and found.all_entries == len(found.entries)
+    counts = {part: sum(len(it.get(name, [])) for it in holders)
+              for part, name in (('unit', 'GpUnit'), ('party', 'Party'), ('person', 'Person'), ('office', 'Office'), ('header', 'Header'),
+                                 ('election', 'Election'), ('candidate', 'Candidate'), ('contest', 'Contest'))}
+    parts = [entry.part for entry in found.entries]
+    assert parts == [part for part, count in counts.items() for _ in range(count)]
+    for part in counts:
+        keys = [entry.key for entry in found.entries if entry.part == part]
+        assert keys == sorted(keys) or keys == [None]
+    for entry in found.entries:
+        seen = SEEN.get(entry.type.rsplit('.', 1)[-1])
+        assert seen is None or set(entry.words) <= seen | CARRIED
+        assert all(isinstance(it.name, erd.SelectionName) for it in entry.selections)
+    names = {entry.key: [it.name for it in entry.selections] for entry in found.entries if entry.part == 'contest'}
+    for head in erd.ballots(report).ballots:
+        for line in erd.ballot(report, head.position).ballot.lines:
+            if line.what == 'contest':
+                assert set(line.selections) <= set(names[line.key])
+                assert line.is_listed or list(line.selections) == names[line.key]
+
+
+def test_words_in_place_of_references(top):
+    found = {(entry.part, entry.key): entry for entry in erd.words((top / 'examples' / 'small-ballot.json').read_bytes()).entries}
+    tree = json.loads((top / 'examples' / 'small-ballot.json').read_bytes())
+    for candidate in tree['Election'][0]['Candidate']:
+        key = min((it['Type'], it.get('OtherType', ''), it['Value']) for it in candidate['ExternalIdentifier'])
+        words = found['candidate', key].words
+        assert words['BallotName'] == candidate['BallotName'] and 'ExternalIdentifier' not in words and '@id' not in words
+
+
+def test_words_of_what_is_refused():
+    refused = erd.words('{}', most_entries=0)
+    assert not refused and refused.more and refused.entries == () and refused.check.all_faults > 0
+    assert erd.words('{').check.lines == ('not JSON',)
+
+
+def test_the_first_words(report):
+    first = erd.words(report, most_entries=2)
+    assert len(first.entries) == min(2, first.all_entries) and first.more == (first.all_entries > 2)
+    assert erd.words(report, most_entries=0).entries == ()

@@ -52,7 +52,7 @@ def test_text_bytes_and_buffers_are_alike(top):
 
 
 @pytest.mark.parametrize('call', [erd.check, erd.canonical, lambda report: erd.compare('{}', report),
-                                  lambda report: erd.differences(report, '{}'), erd.repeated_names, erd.ballots, lambda report: erd.ballot(report, 0)])
+                                  lambda report: erd.differences(report, '{}'), erd.repeated_names, erd.ballots, erd.words, lambda report: erd.ballot(report, 0)])
 def test_half_a_surrogate_pair_is_an_error_of_the_caller(call):
     with pytest.raises(ValueError, match='surrogate'):
         call('"\ud800"')

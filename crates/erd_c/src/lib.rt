@@ -12,6 +12,7 @@ ghost use Rattle.erd_canon.specs.Pieces.{IsCheckLines, IsCheckPiece, IsCompareLi
 ghost use Rattle.erd_canon.specs.Pieces.{IsPieceText};
 ghost use Rattle.erd_canon.specs.Run.{IsChecked, IsCompared};
 ghost use Rattle.erd_canon.specs.ValuedAnswers.{IsValuesPiece};
+ghost use Rattle.erd_canon.specs.WordAnswers.{IsWordsPiece};
 ghost use Rattle.erd_c.specs.Told.{HasCanonicalText, IsCall, IsPieceCall};
 
 mod answers;
@@ -221,6 +222,24 @@ pub extern "C" fn erd_tell_differences_values(
         prefer.now (max (length left.now) (length right.now)) wanted.old wanted.new result room.old room.new }
 {
     Question::DifferencesValues(left, right).tell(alloc, prefer, wanted, room)
+}
+
+/// Lists what ballots print of the objects of a report, and answers with a piece of the list; or with a piece of the list of
+/// faults if the report is refused.
+///
+/// The text is the compact JSON that `erd_canon::words_piece` answers, with no line end.
+#[unsafe(no_mangle)]
+pub extern "C" fn erd_tell_words(
+    alloc: Global,
+    bytes: &[u8],
+    prefer: &[u8],
+    wanted: &mut Wanted,
+    room: &mut [u8],
+) -> Told
+    ensures { IsPieceCall (λ π. IsWordsPiece π bytes.now)
+        prefer.now (length bytes.now) wanted.old wanted.new result room.old room.new }
+{
+    Question::Words(bytes).tell(alloc, prefer, wanted, room)
 }
 
 /// Checks a report, as `erd_tell_check` does, and answers with a piece of the list of faults.

@@ -9,7 +9,7 @@ use crate::call_result::{Told, Wanted, given, tell_nothing, tell_piece};
 use erd_canon::{
     Piece, PieceAnswer, canonical_data_piece, canonical_text_piece, check_data_piece,
     check_text_piece, compare_data_piece, compare_text_piece, differences_data_piece,
-    differences_text_piece, differences_values_piece,
+    differences_text_piece, differences_values_piece, words_piece,
 };
 use std::alloc::{AllocError, Global};
 
@@ -21,6 +21,7 @@ pub(crate) enum Question<'a> {
     CompareData(&'a [u8], &'a [u8]),
     DifferencesData(&'a [u8], &'a [u8]),
     DifferencesValues(&'a [u8], &'a [u8]),
+    Words(&'a [u8]),
     CheckLines(&'a [u8]),
     CanonicalLines(&'a [u8]),
     CompareLines(&'a [u8], &'a [u8]),
@@ -51,6 +52,7 @@ impl<'a> Question<'a> {
         match self {
             Self::CheckData(bytes)
             | Self::CanonicalData(bytes)
+            | Self::Words(bytes)
             | Self::CheckLines(bytes)
             | Self::CanonicalLines(bytes) => bytes.len(),
             Self::CompareData(left, right)
@@ -86,6 +88,7 @@ impl<'a> Question<'a> {
             Self::DifferencesValues(left, right) => {
                 differences_values_piece(alloc, left, right, prefer, piece)
             }
+            Self::Words(bytes) => words_piece(alloc, bytes, prefer, piece),
             Self::CanonicalLines(bytes) => canonical_text_piece(alloc, bytes, prefer, piece),
             Self::DifferencesLines(left, right) => {
                 differences_text_piece(alloc, left, right, prefer, piece)

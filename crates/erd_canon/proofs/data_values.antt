@@ -12,3 +12,4 @@ pub mod PieceTexts  -- the answers that have a piece of a list
 pub mod PieceLines  -- the answers that have a piece of a list as lines
 pub mod ValuedTexts  -- the text of the object of a difference with one more member
 pub mod ValuedLists  -- what the list of differences with their values answers
+pub mod WordLists  -- what the list of what ballots print answers

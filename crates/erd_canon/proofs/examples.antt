@@ -1,7 +1,10 @@
 mod TextExamples
 pub mod EngineExamples
-mod ReportExamples
+pub mod RunExamples
+pub mod ReportExamples
 mod LineExamples
-mod DataExamples
+pub mod DataExamples
 mod PieceExamples
+mod ListPieceExamples
 mod PrepareExamples
+mod WordPieceExamples

@@ -14,6 +14,7 @@ pub mod Pieces  -- which entries of a list an answer has if its caller bounds th
 pub mod PiecesTaken  -- what a caller has who takes a list piece by piece
 pub mod ValuedData  -- the JSON values of differences with what each report has there
 pub mod ValuedAnswers  -- what the call answers that lists them
+pub mod WordAnswers  -- what the call answers that lists what ballots print
 pub mod Writing  -- what a writer holds after a failed write
 pub mod Devices  -- what contracts know of readers and writers
 pub mod Engines  -- all that a run of each engine does to its devices

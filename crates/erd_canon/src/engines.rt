@@ -4,6 +4,7 @@ pub(crate) mod answers;
 pub(crate) mod asked;
 pub(crate) mod ballots;
 pub(crate) mod buffered;
+pub(crate) mod comparison_runs;
 pub(crate) mod lines;
 pub(crate) mod outcome;
 pub(crate) mod prepare;

@@ -33,15 +33,16 @@ pub use data::texts::{
     canonical_text_piece, check_text_piece, compare_text_piece, differences_text_piece,
 };
 pub use data::valued_pieces::differences_values_piece;
+pub use data::words::words_piece;
 pub use devices::log::Log;
 pub use devices::read_from::ReadFrom;
 pub use devices::sink::{Sink, write_out};
 pub use devices::source::{Failed, MOST_BYTES, Source};
 pub use devices::write_to::WriteTo;
 pub use engines::asked::{PairCommand, ReportCommand, run_pair, run_report};
+pub use engines::comparison_runs::{run_compare, run_compare_disposing, run_compare_with};
 pub use engines::outcome::{Outcome, RunFault};
 pub use engines::prepare::{run_prepare, run_prepare_list, run_prepare_report, steps_asked};
 pub use engines::runs::{
     run_canon, run_canon_disposing, run_canon_with, run_check, run_check_disposing, run_check_with,
-    run_compare, run_compare_disposing, run_compare_with,
 };

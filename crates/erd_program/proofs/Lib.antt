@@ -2,3 +2,4 @@
 pub mod Asked
 pub mod Closing
 pub mod Shown
+mod Examples  -- worked examples

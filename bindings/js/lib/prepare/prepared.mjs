@@ -10,7 +10,7 @@ export const MARK_STEP = 'byte-order-mark';
 /** What is told of numbers that change because the report is read and written again. No step does it, and none can be chosen. */
 export const NUMBERS = 'numbers';
 
-/** Every step in order: its name, its group (`removed`, `filled-in` or `visible`) and its words. */
+/** Every step in order: its name, its group (`removed`, `filled-in`, `visible` or `view`) and its words. */
 export const STEPS = Object.entries(STEP_WORDS).map(([name, [group, title, does, loses]]) => ({ name, group, title, does, loses }));
 
 /** The names of the steps of these groups. */

@@ -5,6 +5,7 @@ export const GROUP_WORDS = {
     removed: 'No ballot has it',
     'filled-in': 'What a voter sees stays as it is',
     visible: 'Changes what a voter sees',
+    view: 'Leaves out what a comparison is to pass over',
 };
 
 /** The group and the words of each step, in the order in which they are done: its title, what it does, and what it gives up or what to look at. */
@@ -47,6 +48,12 @@ export const STEP_WORDS = {
         'Nothing is lost. If the other file lacks the member, the two files differ in it.'],
     repeated: ['filled-in', 'Entries that a list has twice',
         'Removes each entry that is the same as an earlier one.', 'Look into the source: another entry may have been meant.'],
+    unseen: ['view', 'Members that no ballot shows',
+        'Removes members that no ballot shows, such as AuthorityIds or FileDate, but no identifier.', 'What differs in these members alone compares as the same. Prepare the other file in the same way.'],
+    'false-flags': ['view', 'Truth values that are false',
+        'Removes each truth value of the standard that is false, such as IsWriteIn.', 'A value that is absent compares as false. Prepare the other file in the same way.'],
+    'other-codes': ['view', 'Identifiers of the type other',
+        'Removes identifiers of the Type other, where an object has one of another Type.', "Lost: the numbers of a vendor's system. Prepare the other file in the same way."],
     'gone-candidates': ['visible', 'Lines of candidates who are gone',
         'Removes each line whose candidates are no longer in the file, on the ballots too.',
         'A voter no longer sees these lines.'],

@@ -31,18 +31,19 @@ import os
 import warnings
 from typing import Optional, TypeVar, Union
 
+from .ballot_words import ObjectWords, SelectionWords, WordList, words_of
 from .ballots import (Ballot, BallotDifference, BallotDifferences, BallotHead, BallotLine, BallotRow, Ballots, BallotsBeside, OneBallot,
                       SelectionRow, ballot_difference_of, ballot_of, beside_of, head_of)
-from .library import ALL, TooLong, ballots_told, version
-from .listing import MOST_LISTED, bytes_of_type, listed, utf_8
+from .library import ALL, GOOD, TooLong, ballots_told, version
+from .listing import MOST_LISTED, answered, bytes_of_type, listed, utf_8
 from .repeats import RepeatedName, RepeatedNames, repeated_names
 from .results import (Canonical, Check, Comparison, Difference, Differences, Fault, SelectionDifference, SelectionName, check_of,
                       comparison_of, differences_of)
 
-__all__ = ['Ballot', 'BallotDifference', 'BallotDifferences', 'BallotHead', 'BallotLine', 'BallotRow', 'Ballots', 'BallotsBeside', 'Canonical', 'Check',
-           'Comparison', 'Difference', 'Differences', 'Fault', 'MOST_LISTED', 'OneBallot', 'RepeatedName', 'RepeatedNames', 'SelectionDifference',
-           'SelectionName', 'SelectionRow', 'TooLong', 'ballot', 'ballot_differences', 'ballots', 'ballots_beside', 'canonical', 'check', 'compare',
-           'differences', 'repeated_names', 'version']
+__all__ = ['Ballot', 'BallotDifference', 'BallotDifferences', 'BallotHead', 'BallotLine', 'BallotRow', 'Ballots', 'BallotsBeside', 'Canonical',
+           'Check', 'Comparison', 'Difference', 'Differences', 'Fault', 'MOST_LISTED', 'ObjectWords', 'OneBallot', 'RepeatedName', 'RepeatedNames',
+           'SelectionDifference', 'SelectionName', 'SelectionRow', 'SelectionWords', 'TooLong', 'WordList', 'ballot', 'ballot_differences', 'ballots',
+           'ballots_beside', 'canonical', 'check', 'compare', 'differences', 'repeated_names', 'version', 'words']
 
 Report = Union[bytes, bytearray, memoryview, str]
 OfPair = TypeVar('OfPair', Comparison, Differences)
@@ -121,6 +122,19 @@ def ballot(report: Report, position: int, *, prefer: Optional[str] = None, most_
     if not found.accepted:
         return OneBallot(found)
     return OneBallot(found, ballot_of(json.loads(ballots_told('erd_ballot', (bytes_of(report),), bytes_of_type(prefer), position)[1])))
+
+
+def words(report: Report, *, prefer: Optional[str] = None, most_entries: Optional[int] = MOST_LISTED) -> WordList:
+    """Returns what ballots print of the objects of the report, each object once, or its faults if it is refused: at most
+    `most_entries` of either. `ballot` tells a ballot by the keys and names of these entries.
+
+    >>> words('{').check.lines
+    ('not JSON',)
+    """
+    answer = answered('erd_words', (bytes_of(report),), prefer, most_entries)
+    if answer.outcome != GOOD:
+        return WordList(hinted(report, check_of(answer.taken, answer.all)))
+    return words_of(answer.taken, answer.all)
 
 
 def ballot_differences(left: Report, right: Report, *, prefer: Optional[str] = None,

@@ -30,7 +30,7 @@ BYTES_OF_PIECE = 2 ** 20
 # The calls for a piece of a list, in the order of `enum erd_listing`.
 LISTINGS = {name: number for number, name in enumerate((
     'erd_check_piece', 'erd_canonical_piece', 'erd_compare_piece', 'erd_differences', 'erd_check_data_piece', 'erd_canonical_data_piece',
-    'erd_compare_data_piece', 'erd_differences_data', 'erd_differences_values'))}
+    'erd_compare_data_piece', 'erd_differences_data', 'erd_differences_values', 'erd_words'))}
 
 # An open list keeps so many bytes of what was judged: some for each byte of the reports, as a judging itself takes, and never more than
 # the last number. Reports are judged once for so much of a list.
@@ -67,7 +67,7 @@ def load(path: str) -> ctypes.CDLL:
     report = [ctypes.c_char_p, ctypes.c_size_t]
     for call, reports in (('erd_check_piece', 1), ('erd_canonical_piece', 1), ('erd_compare_piece', 2), ('erd_differences', 2),
                           ('erd_check_data_piece', 1), ('erd_canonical_data_piece', 1), ('erd_compare_data_piece', 2),
-                          ('erd_differences_data', 2), ('erd_differences_values', 2)):
+                          ('erd_differences_data', 2), ('erd_differences_values', 2), ('erd_words', 1)):
         function = getattr(loaded, call)
         function.argtypes = report * reports + [ctypes.c_char_p, ctypes.POINTER(Piece)] + text
         function.restype = ctypes.c_int

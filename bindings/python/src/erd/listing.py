@@ -5,27 +5,32 @@ from __future__ import annotations
 import json
 from typing import Optional, Tuple
 
-from .library import ALL, GOOD, first_piece, pieces
+from .library import ALL, GOOD, Answer, first_piece, pieces
 
 # How many faults, or differences, are listed if the caller names no other number.
 MOST_LISTED = 1000
 
 
 def listed(name: str, reports: Tuple[bytes, ...], prefer: Optional[str], most: Optional[int]) -> Tuple[object, int]:
-    """Returns the value that the library answers, with so many entries of its list, and how many the list has. Entries whose
-    texts are long are fewer than that; but all of them are there if none is the most."""
+    """Returns the value that the library answers, with so many entries of its list, and how many the list has."""
+    answer = answered(name, reports, prefer, most)
+    return answer.taken, answer.all
+
+
+def answered(name: str, reports: Tuple[bytes, ...], prefer: Optional[str], most: Optional[int]) -> Answer[object]:
+    """Returns what the library answers, with so many entries of its list. Entries whose texts are long are fewer than that; but all
+    of them are there if none is the most."""
     def value_of(text: memoryview, outcome: int) -> object:
         is_form = name == 'erd_canonical_data_piece' and outcome == GOOD
         return bytes(text) if is_form else json.loads(bytes(text))
 
     if most is not None:
-        only = first_piece(name, reports, bytes_of_type(prefer), most_of(most), value_of)
-        return only.taken, only.all
+        return first_piece(name, reports, bytes_of_type(prefer), most_of(most), value_of)
     answers = pieces(name, reports, bytes_of_type(prefer), ALL, value_of)
     first = next(answers)
     for more in answers:
         entries_of(first.taken).extend(entries_of(more.taken))
-    return first.taken, first.all
+    return first
 
 
 def entries_of(data: object) -> list:

@@ -52,7 +52,7 @@ bytes_checked = record {
 }
 
 -- `null` is of a wrong kind
-null_checked : IsCheckedData None (codes "null") Bad (codes "[{\"place\":[],\"reason\":1}]")
+pub null_checked : IsCheckedData None (codes "null") Bad (codes "[{\"place\":[],\"reason\":1}]")
 unfolding serde_json_on_literals digits root_kind
 null_checked = record {
   value = faults_data (root_kind ∷ []);

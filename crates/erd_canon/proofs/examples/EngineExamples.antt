@@ -19,10 +19,10 @@ not_json = inl (no_bytes, refl)
 checked : IsCheckText None [] (codes "not JSON\n")
 checked = inr (codes "not JSON" ∷ [], not_json, refl)
 
-canonical_errors : IsCanonicalErrors None [] (codes "not JSON\n")
+pub canonical_errors : IsCanonicalErrors None [] (codes "not JSON\n")
 canonical_errors = inr (codes "not JSON" ∷ [], not_json, refl)
 
-canonical_output : IsCanonicalOutput None [] []
+pub canonical_output : IsCanonicalOutput None [] []
 canonical_output = inr ((λ t accepted. no_bytes t accepted.read), refl)
 
 -- the left report is judged first, whatever the right one is
@@ -74,10 +74,10 @@ null_refused = record {
   some = λ e. absurd (cc e);
 }
 
-null_checked : IsCheckText None (codes "null") (codes ": wrong kind\n")
+pub null_checked : IsCheckText None (codes "null") (codes ": wrong kind\n")
 unfolding root_kind
 null_checked = inr (codes ": wrong kind" ∷ [], inr (root_kind ∷ [], null_refused, refl), refl)
 
-null_compared : (right : List ℕ) → IsCompared None (codes "null") right Bad (codes "left: : wrong kind\n")
+pub null_compared : (right : List ℕ) → IsCompared None (codes "null") right Bad (codes "left: : wrong kind\n")
 unfolding root_kind
 null_compared right = inl (root_kind ∷ [], null_refused, refl)

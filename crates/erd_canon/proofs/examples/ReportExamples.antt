@@ -5,7 +5,7 @@ use Rattle.erd_check.proofs.Reports.{one_unit, tree_of}
 use Rattle.erd_meaning.proofs.examples.RefusedExamples.{one_unit_is_accepted}
 use Rattle.erd_normal.proofs.examples.CanonicalReports.{form_of_one_unit, one_unit_canonical}
 
-tree_of_one_unit : IsTreeOf one_unit (tree_of one_unit)
+pub tree_of_one_unit : IsTreeOf one_unit (tree_of one_unit)
 unfolding serde_json_on_literals
 tree_of_one_unit = ((one_unit, (refl, refl)), refl)
 

@@ -230,8 +230,8 @@ pub const STEPS: &str = "The steps to do: names of steps or groups, with commas 
 /// The option `--steps`, and the groups.
 pub const STEPS_AT_LENGTH: &str =
     "The steps to do: names of steps or groups, with commas between them. The groups are removed (no ballot
-has it), filled-in (what a voter sees stays as it is) and visible (a voter sees another ballot). Without
-this option, it is removed";
+has it), filled-in (what a voter sees stays as it is), visible (a voter sees another ballot) and view (for a
+comparison: what it is to pass over). Without this option, it is removed";
 
 /// The option `--prefer`, in short.
 pub const PREFER: &str =

@@ -174,7 +174,11 @@ fn listed(
 }
 
 /// Returns the answer for a report that is refused.
-fn refused(alloc: Global, refusal: &Refusal, piece: &Piece) -> Result<PieceAnswer, AllocError>
+pub(crate) fn refused(
+    alloc: Global,
+    refusal: &Refusal,
+    piece: &Piece,
+) -> Result<PieceAnswer, AllocError>
     ensures { IfOk result (λ answer. AnswersData (TellsPieceAs piece.now answer.outcome answer.told refusal.now) answer.text.items) }
 {
     let mut text = String::new(alloc);

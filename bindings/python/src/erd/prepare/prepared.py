@@ -18,7 +18,7 @@ NUMBERS = 'numbers'
 
 
 class Step(NamedTuple):
-    """A step: its name, its group (`removed`, `filled-in` or `visible`) and its words."""
+    """A step: its name, its group (`removed`, `filled-in`, `visible` or `view`) and its words."""
 
     name: str
     group: str

@@ -8,6 +8,7 @@ GROUP_WORDS = {
     'removed': 'No ballot has it',
     'filled-in': 'What a voter sees stays as it is',
     'visible': 'Changes what a voter sees',
+    'view': 'Leaves out what a comparison is to pass over',
 }
 """The groups of steps."""
 
@@ -101,6 +102,24 @@ STEP_WORDS: Dict[str, Tuple[str, str, str, str]] = {
         'Entries that a list has twice',
         'Removes each entry that is the same as an earlier one.',
         'Look into the source: another entry may have been meant.',
+    ),
+    'unseen': (
+        'view',
+        'Members that no ballot shows',
+        'Removes members that no ballot shows, such as AuthorityIds or FileDate, but no identifier.',
+        'What differs in these members alone compares as the same. Prepare the other file in the same way.',
+    ),
+    'false-flags': (
+        'view',
+        'Truth values that are false',
+        'Removes each truth value of the standard that is false, such as IsWriteIn.',
+        'A value that is absent compares as false. Prepare the other file in the same way.',
+    ),
+    'other-codes': (
+        'view',
+        'Identifiers of the type other',
+        'Removes identifiers of the Type other, where an object has one of another Type.',
+        "Lost: the numbers of a vendor's system. Prepare the other file in the same way.",
     ),
     'gone-candidates': (
         'visible',

@@ -1,6 +1,6 @@
 use Rattle.erd_canon.proofs.Common.{option_copied, ◌∙◌, refl, subst, inr, None, Some, IsComparison, RefusedSide, Bad, Good}
 use Rattle.erd_canon.proofs.runs.Comparisons.{difference_written, left_refusal_part, left_refusal_written, right_refusal_part, right_refusal_written}
-use Rattle.erd_canon.proofs.engines.runs.write_compared.Goals as goal
+use Rattle.erd_canon.proofs.engines.comparison_runs.write_compared.Goals as goal
 
 pub returns-in-Ok-clause-written : goal.returns-in-Ok-clause-written
 returns-in-Ok-clause-written g c =

@@ -2,7 +2,7 @@ use Rattle.erd_canon.proofs.Common.{option_copied, ap, Err, most_bytes, rules}
 use Rattle.erd_canon.proofs.runs.CheckTexts.{not_of_fault}
 use Rattle.erd_canon.proofs.runs.Comparisons.{broken_compare, told_of_compare}
 use Rattle.erd_canon.proofs.runs.KnownBytes.{read_whole}
-use Rattle.erd_canon.proofs.engines.runs.run_compare_disposing.Goals as goal
+use Rattle.erd_canon.proofs.engines.comparison_runs.run_compare_disposing.Goals as goal
 
 pub returns : goal.returns
 returns g c =
