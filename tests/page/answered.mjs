@@ -2,28 +2,35 @@
 // report has to be accepted.
 import { readFileSync } from 'node:fs';
 import { load } from '../../bindings/js/index.mjs';
-import { readExactly } from '../../bindings/js/lib/exact.mjs';
 import { BallotAnswers } from '../../web/scripts/ballot_answers.mjs';
-import { Meaning } from '../../web/scripts/meaning.mjs';
+import { wordsOf } from '../../web/scripts/report_words.mjs';
 import { ROOT } from './counted.mjs';
 
 const erd = await load(readFileSync(new URL('out/portable/erd.wasm', ROOT)));
 
-/** The answers on the ballots of one file or two, as bytes. */
-export function ballotsIn(...files) {
-    const meanings = files.map((bytes) => erd.canonical(bytes)).map((form) => {
-        if (!form.accepted) {
-            throw new Error(form.text);
-        }
-        return new Meaning(readExactly(form.bytes), null);
-    });
-    const ask = (call, sides, ...positions) => erd.toldOfBallots(call, sides.map((side) => files[side]), {}, ...positions);
-    return new BallotAnswers(meanings, files.length < 2 ? [] : ask('erd_ballot_differences', [0, 1]), ask);
+/** The words of a file, as bytes. */
+export function wordsIn(bytes, prefer = null) {
+    const checked = erd.check(bytes, { prefer });
+    if (!checked.accepted) {
+        throw new Error(checked.text);
+    }
+    return wordsOf(erd, bytes, prefer);
 }
 
-/** The same of reports, with what a test leaves out and each report has to have. */
+/** The answers on the ballots of one file or two, as bytes. */
+export function ballotsIn(...files) {
+    const ask = (call, sides, ...positions) => erd.toldOfBallots(call, sides.map((side) => files[side]), {}, ...positions);
+    return new BallotAnswers(files.map((bytes) => wordsIn(bytes)), files.length < 2 ? [] : ask('erd_ballot_differences', [0, 1]), ask);
+}
+
+/** The bytes of a report, with what a test leaves out and each report has to have. */
+export function bytesOf(report) {
+    return new TextEncoder().encode(JSON.stringify(completed(report)));
+}
+
+/** The answers on the ballots of such reports. */
 export function ballotsOf(...reports) {
-    return ballotsIn(...reports.map((report) => new TextEncoder().encode(JSON.stringify(completed(report)))));
+    return ballotsIn(...reports.map(bytesOf));
 }
 
 function completed(report) {

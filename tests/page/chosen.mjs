@@ -1,9 +1,10 @@
 // Tries which files are judged after each way to choose them: by a dialogue, by dropping them, as a folder, as an example. One line
 // for each case that fails; at the end stand the counts.
+import { readFileSync } from 'node:fs';
 import { byId } from './elements.mjs';
 import { Choice } from '../../web/scripts/choice.mjs';
 import { EXAMPLES, filesOfExample } from '../../web/scripts/examples.mjs';
-import { counts, equal } from './counted.mjs';
+import { counts, equal, ROOT } from './counted.mjs';
 
 globalThis.document.body = { classList: { toggle() {} } };
 globalThis.addEventListener = () => {};
@@ -49,4 +50,16 @@ equal('two files of a table', told((choice) => choice.pair([B, A])), ['b.json a.
 const texts = { 'county.vendor-a.json': '{}', 'county.vendor-b.json': '{}' };
 equal('the files of the examples', EXAMPLES.map(({ name }) => [name, ...filesOfExample(name, texts).map((file) => file.name)].join(' ')), [
     'same county.vendor-a.json county.vendor-b.json', 'different county.vendor-a.json county.vendor-b.changed.json', 'faulty county.vendor-a.faulty.json']);
+
+// What is changed in an example is in the file: a name, a number and an order, or three mistakes, and nothing else.
+const whole = Object.fromEntries(['a', 'b'].map((one) => `county.vendor-${one}.json`)
+    .map((name) => [name, readFileSync(new URL(`examples/${name}`, ROOT), 'utf8')]));
+const [, differing] = await Promise.all(filesOfExample('different', whole).map((file) => file.text()));
+const [faulty] = await Promise.all(filesOfExample('faulty', whole).map((file) => file.text()));
+const words = (text) => text.match(/"[^"]*"|[\d.]+/g);
+const changed = (before, after) => words(after).filter((one, at) => one !== words(before)[at]);
+equal('an example that differs', changed(whole['county.vendor-b.json'], differing), ['"Ingrid Sablewood"', '2', '"_516"', '"_841"']);
+equal('an example with faults', changed(whole['county.vendor-a.json'], faulty), ['"pty-9"', '"per-001"', '"sel-0101"']);
+equal('both are JSON', [differing, faulty].map((text) => typeof JSON.parse(text)), ['object', 'object']);
+equal('the files of an example as they are', await Promise.all(filesOfExample('same', whole).map((file) => file.text())), Object.values(whole));
 counts();

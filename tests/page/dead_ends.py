@@ -3,15 +3,12 @@ and another order wherever order says nothing. Both are prepared by the same ste
 a letter to the vendor. Files that are no report are called what they are."""
 import json
 import random
-import sys
 
 from prepared import TICKED, Clicks
 from session import EXAMPLES, ROOT
-
-sys.path[:0] = [str(ROOT / 'tests' / 'reports')]
-import exports  # noqa: E402
-import harder_exports  # noqa: E402
-import vendor_exports  # noqa: E402
+import exports
+import harder_exports
+import vendor_exports
 
 WORDS = json.loads((ROOT / 'web' / 'texts.en.json').read_text(encoding='utf-8'))
 MARK = b'\xef\xbb\xbf'

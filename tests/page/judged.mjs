@@ -70,7 +70,7 @@ async function tryOne(name, input, prefer) {
     equal(`${name}: among many`, [survey.outcome, survey.faults, survey.sha256, survey.canonical], [told.outcome, told.faults, sumOf(input), formTold]);
 }
 
-// Each line of each ballot has words, and so has each of its selections: what the proved code tells is found in the form.
+// Each line of each ballot has words, and so has each of its selections: what the proved code tells is found among the words.
 function tryBallots(name, judgement) {
     const { entries } = judgement.styles({ words: '', group: 'all', from: 0, count: 99 }, quiet);
     const items = entries.flatMap(({ key }) => judgement.ballot({ key, next: null }, quiet).items);
@@ -203,4 +203,24 @@ const piecesIn = ({ texts }) => texts.flatMap(({ pieces }) => pieces.map(({ text
 const { key } = pair.styles({ words: '', group: 'differing', from: 0, count: 1 }, quiet).entries[0];
 const printed = pair.ballot({ key, next: null }, quiet).items.flatMap(linesIn).flatMap(piecesIn);
 equal('a ballot of both files has both names', printed.filter((text) => /Ingri(th|d)$/.test(text)), ['removed Ingrith', 'added Ingrid']);
+
+// ---- two elections in one file: each voter gets a ballot in each of them
+
+async function judgementOfTwo(changed) {
+    const report = JSON.parse(readFileSync(new URL('examples/two-elections.vendor-a.json', ROOT)));
+    const [primary] = report.Election;
+    primary.EndDate = '2026-06-03';
+    primary.BallotStyle.forEach((style) => delete style.PartyIds);
+    changed(primary);
+    const judgement = judgementOf([Buffer.from(JSON.stringify(report))]);
+    await judgement.verdict(quiet);
+    return judgement;
+}
+
+const ofEach = await judgementOfTwo((primary) => primary.BallotStyle.pop());
+equal('a ballot style in each election is one for each voter', ofEach.overview({}, quiet).precincts, { all: 3, none: 0, several: 0 });
+equal('two of one election are not', (await judgementOfTwo(() => {})).overview({}, quiet).precincts, { all: 3, none: 0, several: 3 });
+const [{ elections }] = await ofEach.sums({}, quiet);
+equal('both elections, each with its days', elections.map(({ name, start, end }) => `${name} ${start} ${end}`),
+    ['Primary Election 2026-06-02 2026-06-03', 'County Referendum 2026-06-02 2026-06-02']);
 counts();

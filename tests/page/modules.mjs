@@ -8,7 +8,6 @@ import { csvOf } from '../../web/scripts/csv.mjs';
 import { whyNotJson } from '../../web/scripts/diagnosis.mjs';
 import { compactText, readExactly } from '../../bindings/js/lib/exact.mjs';
 import { excerptOf, Lines } from '../../web/scripts/excerpt.mjs';
-import { Meaning } from '../../web/scripts/meaning.mjs';
 import { kindsOf } from '../../web/scripts/fault_kinds.mjs';
 import { insideOf } from '../../web/scripts/inside.mjs';
 import { whyAlike } from '../../web/scripts/look_alikes.mjs';
@@ -21,7 +20,7 @@ import { NotJson, Scanner } from '../../bindings/js/lib/scanner.mjs';
 import { trailOf } from '../../web/scripts/trail.mjs';
 import { typesIn } from '../../web/scripts/types.mjs';
 import { piecesOf } from '../../web/scripts/visible.mjs';
-import { ballotsIn } from './answered.mjs';
+import { ballotsIn, wordsIn } from './answered.mjs';
 import { counts, equal, ROOT, TEXTS } from './counted.mjs';
 
 const SUITE = new URL('out/conformance/', ROOT);
@@ -92,7 +91,7 @@ function tryPair(name, [left, right], prefer) {
     }
     const { differences } = erd.differences(left, right, { prefer, mostDifferences: null });
     equal(`${name}: the first difference`, differences[0]?.line ?? null, difference?.line ?? null);
-    const called = [left, right].map((bytes) => new Meaning(readExactly(erd.canonical(bytes, { prefer }).bytes), prefer).called);
+    const called = [left, right].map((bytes) => wordsIn(bytes, prefer).called);
     const styles = outcome === 'same' ? [] : erd.toldOfBallots('erd_ballot_differences', [left, right], { prefer });
     const below = new Map(styles.map((style) => [String(style.key), style.below]));
     for (const entry of differences) {
@@ -172,9 +171,12 @@ const wordsOf = [[{ part: 'contest', how: 'member', member: 'Name' }, 'seen'], [
     [{ part: 'contest', how: 'member', member: 'Carried' }, 'in doubt'], [{ part: 'contest', how: 'member', member: 'toString' }, 'in doubt'],
     [{ part: 'contest', how: 'member', member: 'ElectionId' }, 'seen'], [{ part: 'person', how: 'only left' }, 'in doubt']];
 wordsOf.forEach(([difference, word]) => equal(`the word of ${JSON.stringify(difference)}`, wordOf(table, difference, 'Contest'), word));
+const wordless = { ElectionReport: { TestType: 'in doubt' }, BallotStyle: { GpUnitIds: 'seen' } };
+equal('the words of objects that have none of their own', [['report', 'TestType'], ['style', 'GpUnitIds'], ['style', 'Carried']]
+    .map(([part, member]) => wordOf(wordless, { part, how: 'member', member })), ['in doubt', 'seen', 'in doubt']);
 
 const county = readFileSync(new URL('examples/county.canonical.json', ROOT), 'utf8');
-const meaningOf = (text) => new Meaning(readExactly(encoder.encode(text)), null);
+const wordsOfText = (text) => wordsIn(encoder.encode(text));
 
 // An object with two identifiers is found by the one that the proved code takes for its key: the least, by code points.
 const identifiersOf = (values) => values.map((Value) => ({ '@type': 'ElectionResults.ExternalIdentifier', Type: 'local-level', Value }));
@@ -183,7 +185,7 @@ const withHeader = (Name, values) => JSON.stringify({ ...JSON.parse(county),
 for (const [why, least, other] of [['past 16 bits', '\ufffd', '\u{10000}'], ['a beginning', 'H', 'H-2']]) {
     const texts = ['one', 'two'].map((name) => withHeader(name, [other, least]));
     const [{ part, key }] = erd.differences(...texts.map((text) => encoder.encode(text)), { mostDifferences: null }).differences;
-    equal(`the least of two identifiers: ${why}`, [key[2], ...texts.map((text) => meaningOf(text).thing(part, key)?.object.Name)],
+    equal(`the least of two identifiers: ${why}`, [key[2], ...texts.map((text) => wordsOfText(text).thing(part, key)?.words.Name)],
         [least, 'one', 'two']);
 }
 
@@ -191,7 +193,7 @@ for (const [why, least, other] of [['past 16 bits', '\ufffd', '\u{10000}'], ['a 
 const ofContest = { part: 'contest', key: ['local-level', '', 'C1'], how: 'member', member: 'ContestSelection' };
 const CANDIDATES = 'ElectionResults.CandidateSelection';
 const K12 = ['local-level', '', 'K-12'];
-const inTwo = [county, county.replaceAll('Ingrith', 'Ingrid')].map(meaningOf);
+const inTwo = [county, county.replaceAll('Ingrith', 'Ingrid')].map(wordsOfText);
 const NO_NAMES = [() => undefined, () => undefined];
 const ofBoth = inTwo.map(({ called }) => called);
 const namesOf = (some, ...selections) => insideOf({ ...ofContest, selections }, some).entries.map(({ name }) => name);
@@ -205,7 +207,7 @@ equal('a selection without a name', namesOf(ofBoth, ofCandidates('only left', []
 const languages = [['en', 'Yes'], ['es', 'Sí']].map(([Language, Content]) => ({ '@type': 'ElectionResults.LanguageString', Content, Language }));
 equal('a selection with a label', namesOf(ofBoth, ...['Yes', { '@type': 'ElectionResults.InternationalizedText', Text: languages }].map((label) => (
     { how: 'only left', name: ['ElectionResults.BallotMeasureSelection', [], false, null, JSON.stringify(label), null] }))), ['“Yes”', 'en: “Yes” + es: “Sí”']);
-const [party] = inTwo[0].things.get('party').values();
+const [party] = inTwo[0].of('party').values();
 equal('a selection of a party', namesOf(ofBoth, { how: 'only left', name: ['ElectionResults.PartySelection', [party.key], false, null, null, null] }),
     [`Party “${party.title}” (${party.key.filter(Boolean).join(' ')})`]);
 const many = insideOf({ ...ofContest, selections: new Array(101).fill({ ...ofCandidates('member', [], true), member: 'Note' }) }, ofBoth);

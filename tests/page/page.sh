@@ -31,7 +31,7 @@ build.main(sys.argv[1:])" "$wasm" "$work/others/short.html"
 said 'the page that knows no names' "$(! cmp -s "$page" "$work/others/short.html" || echo 'it is the same page')"
 if command -v node > /dev/null; then
     if [ ${#parts[@]} -eq 0 ]; then
-        for name in modules parts lines words shown chosen judged trees ballot_words record_words; do
+        for name in modules parts lines words shown chosen judged trees ballot_words record_words converted result_told ballots_shown page_told parts_told; do
             node "tests/page/$name.mjs" > "$work/$name.log" 2>&1
             counted "$name" "$work/$name.log"
         done

@@ -16,10 +16,10 @@ import { columnsOf } from '../../web/scripts/columns.mjs';
 import { compactText, readExactly } from '../../bindings/js/lib/exact.mjs';
 import { kindsOf } from '../../web/scripts/fault_kinds.mjs';
 import { firstLanguage } from '../../web/scripts/languages.mjs';
-import { Meaning } from '../../web/scripts/meaning.mjs';
 import { needsOf } from '../../web/scripts/needs.mjs';
 import { foundPlaces } from '../../web/scripts/places.mjs';
 import { insideOf } from '../../web/scripts/inside.mjs';
+import { areBounded, wordsOf as wordsListed } from '../../web/scripts/report_words.mjs';
 import { rowsOfDifference } from '../../web/scripts/rows.mjs';
 import { piecesOfBoth } from '../../web/scripts/text_changes.mjs';
 import { languageText, say, sayIfKnown } from '../../web/scripts/texts.mjs';
@@ -27,7 +27,7 @@ import { trailOf } from '../../web/scripts/trail.mjs';
 import { typesIn } from '../../web/scripts/types.mjs';
 import { linesOf } from '../../web/scripts/values.mjs';
 import { beginningOf, endOf, piecesOf } from '../../web/scripts/visible.mjs';
-import { ballotsOf } from './answered.mjs';
+import { ballotsOf, bytesOf as reportBytes, wordsIn } from './answered.mjs';
 import { counts, equal, ROOT, TEXTS } from './counted.mjs';
 import { identified, label, typed } from './made.mjs';
 
@@ -135,11 +135,12 @@ function report(change = () => {}) {
         })],
     });
     change(made, made.Election[0]);
-    return new Meaning(made, null);
+    return made;
 }
 
-const meaning = report();
-const { called } = meaning;
+const plain = report();
+const wordsOfPlain = wordsIn(reportBytes(plain));
+const { called } = wordsOfPlain;
 const textsOf = (name, value) => linesOf(name, value, called).map(({ text }) => text);
 const K = (code) => ['local-level', '', code];
 const code = { '@type': 'ElectionResults.ExternalIdentifier', Type: 'other', OtherType: 'ward', Value: '7' };
@@ -164,8 +165,27 @@ const VALUES = {
 };
 Object.entries(VALUES).forEach(([what, [name, value, wanted]]) => equal(`lines of ${what}`, textsOf(name, value), wanted));
 equal('lines of one key are alike, whatever the object is called', [report(), report((made) => { made.Party[0].Name = 'Azure'; })]
-    .map((one) => linesOf('PartyId', K('P1'), one.called)[0].like).map((like, _at, [first]) => like === first), [true, true]);
-equal('the title of a person', meaning.thing('person', K('N1')).title, 'Ann Ash');
+    .map((one) => linesOf('PartyId', K('P1'), wordsIn(reportBytes(one)).called)[0].like).map((like, _at, [first]) => like === first), [true, true]);
+// The list of words comes piece by piece, and one that is too long is not kept.
+const party = (code) => ({ class: 'ElectionResults.Party', key: K(code), part: 'party', words: { Name: code } });
+const listed = (size, ...pieces) => {
+    const wordsByPieces = () => pieces.map((codes) => ({ size, entries: codes.map(party) }));
+    return [...wordsListed({ wordsByPieces }, null, null).of('party').values()].map(({ title }) => title);
+};
+// Each reference to an object with a long code has the code in the words: as many as have 16 MiB together, or eight times the form.
+const formWith = (references, code, more = '') => bytesOf({ ExternalIdentifier: [{ Value: 'x'.repeat(code) }], CandidateIds: new Array(references).fill('ca1'), more });
+const LONG_CODES = [[1000, 1000], [1000, 16_000], [1000, 16_900], [2000, 9000], [1000, 16_900, 'x'.repeat(2 ** 21)], [1000, 18_000, 'x'.repeat(2 ** 21)]];
+equal('words that may be too long', LONG_CODES.map((one) => areBounded(formWith(...one))), [true, true, false, false, true, false]);
+equal('words in pieces', [listed(9, ['A', 'B'], ['C', 'D'], ['E']), listed(2, [])], [['A', 'B', 'C', 'D', 'E'], []]);
+equal('words that are as long as can be kept', listed(2 ** 26, ['A'], ['B']), ['A', 'B']);
+equal('words that are longer', (() => {
+    try {
+        return listed(2 ** 26 + 1, ['A'], ['B']);
+    } catch (error) {
+        return error.constructor;
+    }
+})(), RangeError);
+equal('the title of a person', wordsOfPlain.thing('person', K('N1')).title, 'Ann Ash');
 
 const shown = ({ mark, lines, selections = [] }) => [mark, lines.map(({ role, texts }) => [role, ...texts.map(({ lang, pieces }) => lang
     + pieces.map(({ text, mark: word }) => (word === '' ? text : `<${word} ${text}>`)).join(''))]), selections.map(shown)];
@@ -175,8 +195,7 @@ const title = ['title', 'enFor Governor', 'esPara gobernador'];
 const votes = ['votes', 'Vote for up to 3'];
 const ticket = ['', [['name', 'Bo'], ['name', 'Ann'], ['party', 'Green']], []];
 const other = ['', [['name', 'Cy']], []];
-const answersOf = (...some) => ballotsOf(...some.map(({ report: made }) => made));
-const one = answersOf(meaning);
+const one = ballotsOf(plain);
 equal('a ballot in its order', itemsOf(one, 'S1'), [['', [['title', 'State']], []], ['', [title, votes], [other, ticket]]]);
 // Without an order they rise by their names: the one for a write-in has no candidate.
 equal('a ballot without an order', itemsOf(one, 'S2'), [['', [title, votes], [['', [['writeIn', 'Write-in']], []], ticket, other]]]);
@@ -189,7 +208,7 @@ const right = report((_made, election) => {
     election.BallotStyle[0].OrderedContent[0].OrderedContent[0].OrderedContestSelectionIds = ['cs1', 'cs3'];
     election.BallotStyle[1].ExternalIdentifier = identified('S3');
 });
-const two = answersOf(meaning, right);
+const two = ballotsOf(plain, right);
 const marksOf = (answers, group = 'all') => answers.styles({ words: '', group, from: 0, count: 9 }).entries.map(({ code, mark }) => [code, mark]);
 equal('which ballots differ', marksOf(two), [['local-level S1', 'changed'], ['local-level S2', 'removed'], ['local-level S3', 'added']]);
 const changedTitle = ['title', 'enFor Governor', 'es<removed Para gobernador>'];
@@ -201,7 +220,7 @@ const CHANGES = {
     'another name': (_made, election) => { election.Contest[0].ContestSelection[0].CandidateIds = ['ca1']; },
 };
 for (const [name, change] of Object.entries(CHANGES)) {
-    const answers = answersOf(report((_made, election) => { election.BallotStyle.shift(); }), report((made, election) => {
+    const answers = ballotsOf(report((_made, election) => { election.BallotStyle.shift(); }), report((made, election) => {
         election.BallotStyle.shift();
         change(made, election);
     }));
@@ -209,37 +228,44 @@ for (const [name, change] of Object.entries(CHANGES)) {
     equal(`${name}: none is the same`, [marksOf(answers, 'same'), marksOf(answers, 'differing')], [[], [['local-level S2', 'changed']]]);
 }
 const subtitled = report((_made, election) => { election.Contest[0].BallotSubTitle = 'Full term'; });
-equal('a line that is gone', itemsOf(answersOf(subtitled, meaning), 'S2')[0][1].at(-1), ['BallotSubTitle', '<removed Full term>']);
+equal('a line that is gone', itemsOf(ballotsOf(subtitled, plain), 'S2')[0][1].at(-1), ['BallotSubTitle', '<removed Full term>']);
 // A ballot that differs in what the page does not show, or in an identifier alone, differs all the same, and there is a sentence on it.
 const abbreviated = report((made) => { made.Party[1].Abbreviation = 'G'; });
-const hidden = answersOf(meaning, abbreviated);
+const hidden = ballotsOf(plain, abbreviated);
 const belowOf = (answers) => answers.styles({ words: '', group: 'all', from: 0, count: 9 }).entries.map(({ below, allBelow }) => [below, allBelow]);
 equal('what differs on a ballot', belowOf(hidden), [[['  changed contest ["local-level","","C1"]'], 1], [['  changed contest ["local-level","","C1"]'], 1]]);
 equal('a ballot that looks the same', [marksOf(hidden), hidden.seen()],
     [[['local-level S1', 'changed'], ['local-level S2', 'changed']], { all: 2, differing: 2, same: 0 }]);
 const sentencesOf = (answers) => new BallotFindings(answers).some({ words: '', from: 0, count: 99 }).entries
     .map(({ subject, what, choice = '', count }) => [subject, what, choice, count].join(' '));
+// The name of an election is on all of its ballots. The proved code tells it as a difference of the election, and not of a ballot.
+const renamed = (change = () => {}) => report((made, election) => {
+    election.Name = 'Another';
+    change(made);
+});
+equal('another name of the election', [sentencesOf(ballotsOf(plain, renamed())), sentencesOf(ballotsOf(plain, renamed((made) => { made.GpUnit[1].Name = 'Out'; })))],
+    [[], [' words  1']]);
 equal('what looks the same is told', sentencesOf(hidden), ['For Governor changed  2']);
 // Another identifier is told as one thing, and marked on both lines: the proved code tells one that is gone, and another one.
 const otherCandidate = report((_made, election) => { election.Candidate[2].ExternalIdentifier = identified('K9'); });
-const recoded = answersOf(meaning, otherCandidate);
+const recoded = ballotsOf(plain, otherCandidate);
 equal('another identifier', sentencesOf(recoded), ['For Governor choice.renamed Cy 2']);
 const [, { selections: recodedOnes }] = recoded.ballot({ key: keyOf('S1') }).items;
 equal('another identifier: its lines', recodedOnes.filter(({ renamed: isOther }) => isOther).map(({ mark }) => mark), ['removed', 'added']);
-const otherContest = answersOf(meaning, report((_made, election) => { election.Contest[0].ExternalIdentifier = identified('C9'); }));
+const otherContest = ballotsOf(plain, report((_made, election) => { election.Contest[0].ExternalIdentifier = identified('C9'); }));
 equal('a contest with another identifier', [sentencesOf(otherContest),
     otherContest.ballot({ key: keyOf('S2') }).items.map(({ mark, renamed: isOther }) => [mark, isOther])],
     [['For Governor renamed  2'], [['removed', true], ['added', true]]]);
-const otherUnit = answersOf(meaning, report((made) => { made.GpUnit[1].Number = '7'; }));
+const otherUnit = ballotsOf(plain, report((made) => { made.GpUnit[1].Number = '7'; }));
 equal('a unit with another number', [sentencesOf(otherUnit), marksOf(otherUnit)], [[' changed  1'], [['local-level S1', 'changed'], ['local-level S2', '']]]);
-const otherCode = answersOf(meaning, report((_made, election) => { election.BallotStyle[1].ExternalIdentifier = identified('S9'); }));
+const otherCode = ballotsOf(plain, report((_made, election) => { election.BallotStyle[1].ExternalIdentifier = identified('S9'); }));
 equal('a style under another code', [marksOf(otherCode), otherCode.seen()],
     [[['local-level S1', ''], ['local-level S2', 'removed'], ['local-level S9', 'added']], { all: 3, differing: 2, same: 1 }]);
-equal('the same ballots', marksOf(answersOf(meaning, report()), 'same'), [['local-level S1', ''], ['local-level S2', '']]);
+equal('the same ballots', marksOf(ballotsOf(plain, report()), 'same'), [['local-level S1', ''], ['local-level S2', '']]);
 equal('a ballot with all the words', one.styles({ words: 'east WEST', group: 'all', from: 0, count: 9 }).entries.map(({ code }) => code), ['local-level S1']);
 // Units around those of a style are found, and what is not around them is not.
 const district = (id, code, Name, inside) => typed('ReportingUnit', { '@id': id, ExternalIdentifier: identified(code), Name, ComposingGpUnitIds: [inside] });
-const around = answersOf(report((made) => { made.GpUnit.push(district('gp3', 'D3', 'Library', 'gp2'), district('gp4', 'R4', 'Region', 'gp3')); }));
+const around = ballotsOf(report((made) => { made.GpUnit.push(district('gp3', 'D3', 'Library', 'gp2'), district('gp4', 'R4', 'Region', 'gp3')); }));
 const found = (words) => around.styles({ words, group: 'all', from: 0, count: 9 }).entries.map(({ code }) => code.slice(-2));
 equal('a ballot by a district', ['library', 'r4', 'east'].map(found),
     [['S1'], ['S1'], ['S1', 'S2']]);
@@ -250,7 +276,7 @@ two.ask = (call, ...question) => asked.push(call) && ask(call, ...question);
 ['S2', 'S2', 'S3', 'S2'].forEach((code) => two.ballot({ key: keyOf(code) }));
 equal('a ballot is asked for once', asked, ['erd_ballot', 'erd_ballot']);
 // Much that differs on a ballot: the first lines are told, each shortened.
-const lengthy = answersOf(...[0, 1].map((side) => report((made, election) => {
+const lengthy = ballotsOf(...[0, 1].map((side) => report((made, election) => {
     const many = Array.from({ length: 31 }, (_, at) => `${side}-${at}-${'x'.repeat(400)}`);
     made.Header.push(...many.map((code) => typed('Header', { '@id': code, ExternalIdentifier: identified(code), Name: code })));
     election.BallotStyle[0].OrderedContent.push(...many.map((code) => typed('OrderedHeader', { HeaderId: code })));
@@ -372,6 +398,11 @@ equal('the mark of a copy', markIn(JSON.parse(new TextDecoder().decode(copied)).
     { name: 'a "b".json', original: '0'.repeat(64), converted: false, steps: [{ name: 'nulls', count: 3 }] });
 const ofXml = { name: 'a", converted from XML (SHA-256 ".xml', original: '1'.repeat(64), converted: true, steps: [{ name: 'nulls', count: 3 }] };
 equal('the mark of a copy of XML', markIn(JSON.parse(new TextDecoder().decode(withMark(bytesOf('{}'), ofXml))).Notes), ofXml);
+// A copy says more in its notes, and nothing less: a note may say that a contest is struck.
+const STRUCK = { Notes: 'Contest 3 is struck.\nSee "order 7".', a: [1, 'x'] };
+const struck = JSON.parse(new TextDecoder().decode(withMark(bytesOf(STRUCK), ofXml)));
+equal('a copy keeps the notes of its file', [struck.Notes.split('\n').slice(0, -1).join('\n'), struck.a, withoutMark(struck.Notes), markIn(struck.Notes)],
+    [STRUCK.Notes, STRUCK.a, STRUCK.Notes, ofXml]);
 equal('notes without the mark', [withoutMark(`x\n${JSON.parse(new TextDecoder().decode(copied)).Notes}`), withoutMark('y'), markIn('Prepared by hand')], ['x', 'y', null]);
 
 // ---- the words of the page

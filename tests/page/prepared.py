@@ -5,13 +5,11 @@ import json
 import os
 import platform
 import re
-import sys
 
 from session import EXAMPLES, ROOT, report_of_units, sha256
+import vendor_exports
 
-sys.path[:0] = [str(ROOT / 'bindings' / 'python' / 'src'), str(ROOT / 'tests' / 'reports')]
 os.environ.setdefault('ERD_LIBRARY', str(ROOT / f'out/portable/linux-{platform.machine()}/liberd.so.0'))
-import vendor_exports  # noqa: E402
 from erd.prepare import STEPS, Preparation, steps_of  # noqa: E402
 
 MOST_CLICKS = 5

@@ -1,7 +1,8 @@
 // Tries what the record of a judgement says, which two offices read to each other and file: each line whole, with its words by
-// hand. One line for each case that fails; at the end stand the counts.
+// hand; and what is saved beside it. One line for each case that fails; at the end stand the counts.
 import { below } from './elements.mjs';
 import { recordOf } from '../../web/scripts/record.mjs';
+import { csvOf } from '../../web/scripts/csv.mjs';
 import { long, theirs } from '../../web/scripts/dom.mjs';
 import { counts, equal } from './counted.mjs';
 
@@ -51,6 +52,31 @@ const filed = below(whole, 'div').find(({ attributes }) => attributes?.class ===
 equal('what is filed has the notices and the findings', ['A NOTICE', 'A DIFFERENCE'].map((text) => filed.includes(text)), [true, true]);
 equal('what is filed says what is proved', [/Proved: the verdict/.test(filed), /Not proved/.test(filed)], [true, true]);
 equal('what is filed has room to sign', ['Office', 'Name', 'Signature'].map((text) => filed.includes(text)), [true, true, true]);
+
+// The page with the signatures names each file with its own sum, and each button saves the form of its own file.
+const saved = [];
+const links = [];
+const made = document.createElement;
+document.createElement = (tag) => Object.assign(made(tag), { click() { links.push(this.attributes.download); } });
+globalThis.setTimeout = () => {};
+const asked = async (kind, question) => {
+    saved.push([kind, question]);
+    return new Uint8Array(0);
+};
+const both = recordOf({ files: [file(1, SUMS[0], SUMS[1]), file(2, SUMS[2], SUMS[3])], names: ['a.json', 'b.json'], prefer: null, version: '1',
+    pageSum: SUMS[4], verdict: 'V', date: new Date(0), findings: null, notices: [], listed: null }, { ask: asked });
+const signed = below(both, 'p').filter(({ attributes }) => attributes?.class === 'signed').map(({ textContent }) => textContent);
+equal('what is signed has each file with its sum', signed, [`First file: a.json SHA-256 ${SUMS[0]}`, `Second file: b.json SHA-256 ${SUMS[2]}`]);
+const buttons = below(both, 'button').filter(({ textContent }) => /canonical form/.test(textContent) && !/[Cc]opy/.test(textContent));
+await Promise.all(buttons.map((one) => one.listeners.click()));
+equal('each button saves the form of its file', [buttons.map(({ textContent }) => textContent), saved],
+    [['Save the canonical form of the first file', 'Save the canonical form of the second file'], [['canonical', { index: 0 }], ['canonical', { index: 1 }]]]);
+equal('under the name of its file', links, ['a.canonical.json', 'b.canonical.json']);
+
+// What is saved of many files is a table for each program: a cell with a comma, a quotation mark or a line feed is one cell (RFC 4180), and
+// none is a formula.
+equal('a table as CSV', csvOf([['file', 'notes', 'faults'], ['a "b", c.json', 'one\ntwo', 3], ['=1+1.json', '', '']]),
+    'file,notes,faults\r\n"a ""b"", c.json","one\ntwo",3\r\n\'=1+1.json,,\r\n');
 
 // Letters that nobody would see are marks, in every text of a file, and a text that is cut says so.
 for (const [name, text, shown] of [['a zero-width space', 'a\u200bb', 'aU+200Bb'], ['another direction', '\u202eb', 'U+202Eb'], ['a no-break space', 'a\u00a0b', 'aU+00A0b'],

@@ -2,8 +2,8 @@
 // faults and copies. tests/page/shown.txt has by hand the lines that a person reads of each. One line for each case that fails;
 // at the end stand the counts.
 import { readFileSync } from 'node:fs';
-import './elements.mjs';
-import { findingSentence } from '../../web/scripts/ballot_sentences.mjs';
+import { below } from './elements.mjs';
+import { BallotSentences, findingSentence } from '../../web/scripts/ballot_sentences.mjs';
 import { ballotShown } from '../../web/scripts/ballot_view.mjs';
 import { cardOf } from '../../web/scripts/card.mjs';
 import { firstDifference, insideSentence, useExplanations } from '../../web/scripts/comparison.mjs';
@@ -84,6 +84,7 @@ const seen = (differing, all, leftOut, count, listed, unseen = 0) => {
 };
 const SEEN = {
     'ballots that differ': seen(2, 5, [], 3, 3),
+    'one ballot that differs': seen(1, 5, [], 3, 3),
     'nothing that a voter sees': seen(0, 5, [], 3, 3, 3),
     'equal ballots, and what they leave out': seen(0, 5, LEFT_OUT, 3, 3),
     'no ballots, and what they leave out': seen(0, 0, LEFT_OUT, 3, 3),
@@ -156,7 +157,13 @@ const FINDINGS = [
 const words = (role, text, mark = '') => ({ role, own: false, texts: [{ lang: '', pieces: [{ text, mark }] }] });
 const choice = (text, mark = '', more = {}) => ({ mark, lines: [words('name', text)], ...more });
 const contest = (title, more) => ({ kind: 'contest', mark: '', depth: 0, first: 0, lines: [words('title', title)], unlisted: false, ordered: true, ...more });
+// A sentence that is true of thirty ballots names some of them, and shows the first.
+const opened = document.createElement('div');
+const STYLES = Array.from({ length: 14 }, (_, at) => ({ key: `k${at}`, code: `S${at}`, units: [`Precinct ${at}`, 'East'] }));
+await new BallotSentences(answering({ ballot: ({ key }) => ({ lines: [words('election', `The ballot of ${key}`)], items: [] }) }), () => {})
+    .open({ styles: STYLES, count: 30 }, opened);
 const BALLOTS = {
+    'the ballots of a sentence': opened,
     'sentences on the ballots': FINDINGS.map((one) => findingSentence(one)),
     'a ballot of two files': ballotShown({ lines: [words('election', 'General')], items: [
         contest('Mayor', { lines: [words('title', 'Mayor'), words('votes', 'Vote for 1', 'added'), words('party', 'Blue', 'removed')],
@@ -177,8 +184,20 @@ const client = answering({ kinds: ({ index }) => [KINDS][index], places: ({ inde
 const CONVERTED = { isBorn: false, sha256: 'a'.repeat(64), form: { sha256: 'b'.repeat(64), size: 9 }, allTold: 12,
     told: [{ place: '/X', line: 4, key: 'element', name: '' }, { place: '/Y', line: null, key: 'attribute', name: 'q' }] };
 const XML = { name: 'a.xml', index: 0, client: null, isRefused: false };
-const COPY = { name: 'x.json', original: 'c'.repeat(64), converted: true, steps: [{ name: 'nulls', count: 1200 }, { name: 'odd', count: 1 }] };
+const COPY = { name: 'x.json', original: 'c'.repeat(64), converted: true, steps: [{ name: 'nulls', count: 1200 }, { name: 'odd', count: 1 },
+    ...['kinds', 'counts', 'names', 'codes', 'party-lines'].map((name, at) => ({ name, count: at + 2 }))] };
 const maker = new CopyMaker(client, { index: 0, names: ['x.raw.json'], files: [], isPair: false, takesCopies() {} });
+// What is judged when a copy is to be checked: of two files the copy of the one, or copies of both. Where no step changes the second file,
+// that is its own copy.
+const taken = [];
+for (const [index, changes] of [[0, [1, 1]], [1, [1, 1]], [1, [1, 0]]]) {
+    const two = new CopyMaker(client, { index, names: ['a.raw.json', 'b.json'], files: [{ name: 'a.raw.json' }, { name: 'b.json' }], isPair: true,
+        takesCopies: (files) => taken.push(files.map(({ name }) => name).join(' ')) });
+    two.steps = () => ['nulls'];
+    two.asked = async (kind, { index: at, steps }) => ({ bytes: new Uint8Array(1), name: kind, steps: steps.slice(0, changes[at]) });
+    await two.check();
+    await two.checkBoth();
+}
 const STEP = { name: 'nulls', done: true, count: 0, made: [], leftCount: 0, left: [] };
 const PLACE = { trail: [], pointer: '/a' };
 const OVERVIEW = { counts: { style: 2, contest: 1, candidate: 0, party: 3, office: 0, person: 0, header: 0, unit: 7 },
@@ -206,28 +225,33 @@ const OTHERS = {
     'the record of a copy': copyRecorded(COPY),
     'steps of a copy': [copyName('x.raw.json'),
         maker.step({ ...STEP, count: 2, made: [{ ...PLACE, before: 'null', after: null }], leftCount: 1, left: [{ why: 'noName', ...PLACE }] }),
+        maker.step({ ...STEP, name: 'counts', count: 1, made: [{ ...PLACE, before: '0', after: null }] }),
         maker.step({ ...STEP, name: 'names', done: false }), maker.group('visible', []), maker.group('removed', [STEP])],
+    'files that are judged in place of others': taken,
     'the card of a file': await card(OVERVIEW, ['es', 'en'], { elections: [GENERAL], isTest: true, envelope: { SequenceStart: '1', SequenceEnd: '2' } }),
     'the card of a file without trouble': await card(FINE, [], { elections: [{ ...GENERAL, end: GENERAL.start, type: 'odd' }], isTest: false,
         envelope: { SequenceStart: '1', SequenceEnd: '1' } }),
 };
 
-// ---- many files
+// ---- many files, two of which mean the same and have other bytes
 
 const surveyOf = (sum, more = {}) => ({ outcome: 'accepted', sha256: `0${sum}`.repeat(32), canonical: { size: 1, sha256: sum.repeat(64) }, repeated: 0,
     isTest: false, notes: null, converted: null, ...more });
 const SURVEYS = {
-    'a.json': surveyOf('a'), 'b.json': surveyOf('b', { isTest: true, notes: 'first' }), 'c.json': surveyOf('b', { repeated: 2 }),
+    'a.json': surveyOf('a'), 'b.json': surveyOf('b', { isTest: true, notes: 'first' }), 'c.json': surveyOf('b', { sha256: '0c'.repeat(32), repeated: 2 }),
     'd.xml': surveyOf('d', { converted: CONVERTED }), 'e.json': { outcome: 'refused', faults: 12, repeated: 0, isTest: false, notes: null, converted: null },
     'f.json': { outcome: 'notJson', repeated: 0, isTest: false, notes: null, converted: null },
 };
 const compared = [];
 const many = new ManyFiles(document.createElement('div'), [...Object.keys(SURVEYS).map((name, at) => ({ file: { name, size: 1000 - at }, name })),
     { file: { name: 'g.txt', size: 5 }, name: 'g.txt', isLeftOut: true }], {
-    client: { ...answering({ survey: ({ file, prefer }) => (prefer === 'fips' ? SURVEYS[file.name] : null) }), another: () => many.client, leave() {} },
+    client: { ...answering({ survey: ({ file, prefer }) => (prefer === 'fips' ? SURVEYS[file.name] : null) }), another: () => {
+        throw new Error('no worker but this one');
+    }, leave() {} },
     judgedFile: async (file) => ({ file }), compare: (files) => compared.push(files.map(({ name }) => name)), say() {},
 });
 await many.judge('fips', () => {}, () => true);
+equal('shown: many files: each has its row at once', below(many.table, 'tr').length, 7);
 const heads = () => linesOf(many.table).filter((text) => /^[a-g]\.(json|xml|txt)$/.test(text)).join(' ');
 const MANY = { 'many files': [...many.holder.children], 'many files as CSV': many.records().map((cells) => cells.join(' | ')) };
 const orders = [0, 1, 1, 2, 3].map((column) => {

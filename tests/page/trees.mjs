@@ -1,46 +1,70 @@
-// Holds which modules of the page read the tree of a report, and what for: it is read for the words beside keys. Which differences and
-// which ballots there are, and the values of differences, come from the proved code. The modules are listed here by hand. One line for
-// each case that fails; at the end stand the counts.
+// Holds that the page shows nothing of a difference or a ballot that is not in an answer of the proved code: which modules read the tree
+// of a report, which ask the proved code, what the answers are made of, and that neither these nor the page itself reach a tree. The
+// modules are listed here by hand. One line for each case that fails; at the end stand the counts.
 import { readdirSync, readFileSync } from 'node:fs';
 import { counts, equal, ROOT } from './counted.mjs';
 
-// The modules that take an object out of a tree, or are handed a tree or its objects.
+// The modules that read a report as a tree, or walk through one.
 const READ_TREES = {
-    'ballots.mjs': 'the words beside keys', 'ballot_answers.mjs': 'languages, and the units around others', 'judging.mjs': 'makes the trees',
-    'meaning.mjs': 'names of objects by key', 'overview.mjs': 'what one file has', 'own_view.mjs': 'types of identifiers that one file has',
-    'seen.mjs': 'the members that the ballots of one file show', 'side.mjs': 'reads the form',
+    'judging.mjs': 'reads the form of one file for its card',
+    'own_view.mjs': 'makes copies without identifiers, which the proved code compares',
+    'unprinted.mjs': 'what the ballots of one file leave out, for its card',
 };
 // The modules that ask the proved code.
-const ASK_THE_CORE = ['judging.mjs', 'side.mjs'];
+const ASK_THE_CORE = ['judging.mjs', 'report_words.mjs', 'side.mjs'];
+// The modules that read the bytes of a file: places and parts of it, the envelope, the notes, the status and types of identifiers.
+const READ_BYTES = ['copy_mark.mjs', 'diagnosis.mjs', 'envelope.mjs', 'excerpt.mjs', 'excerpts.mjs', 'judging.mjs', 'other_file.mjs', 'places.mjs',
+    'preparing.mjs', 'report_words.mjs', 'side.mjs', 'types.mjs'];
 
 const folder = new URL('web/scripts/', ROOT);
 const names = readdirSync(folder).filter((name) => name.endsWith('.mjs'));
 const codeOf = (name) => readFileSync(new URL(name, folder), 'utf8').replace(/^ *(\/\/|\/\*\*|\*).*$/gm, '');
 const importsOf = (text) => [...text.matchAll(/^import .* from '(.*)';$/gm)].map(([, place]) => place.split('/').at(-1));
-const TREE = /\.object\b(?!')|\bmeanings\b|\bMeaning\(|\bmeaning\.\w|readExactly\(|\breports?\)/;
-
 const modules = new Map(names.map((name) => [name, codeOf(name)]));
-const readers = [...modules].filter(([, text]) => TREE.test(text)).map(([name]) => name);
-equal('the modules that read trees', readers.sort(), Object.keys(READ_TREES).sort());
-const asking = [...modules].filter(([, text]) => /\berd\.(?!html|wasm)\w+\(/.test(text)).map(([name]) => name);
-equal('the modules that ask the proved code', asking.sort(), ASK_THE_CORE);
-
-// What is told of ballots is made of what the proved code lists: no other module makes the answers, and they are made with that list.
+const having = (pattern) => [...modules].filter(([, text]) => pattern.test(text)).map(([name]) => name).sort();
 const imports = new Map([...modules].map(([name, text]) => [name, importsOf(text)]));
 const importing = (name) => [...imports].filter(([, some]) => some.includes(name)).map(([one]) => one).sort();
-equal('who answers on ballots', importing('ballot_answers.mjs'), ['judging.mjs']);
-equal('with what the answers are made', [...modules.get('judging.mjs').matchAll(/new BallotAnswers\((.*)\);/g)].map(([, words]) => words),
-    ['this.meanings(tell), this.differingBallots(), (...question) => this.toldOfBallots(...question)']);
-const [, listing] = /differingBallots\(\) \{([^}]*\}[^}]*)\}/.exec(modules.get('judging.mjs'));
+
+/** All modules that these need, with them. */
+function neededBy(...some) {
+    const found = new Set(some);
+    for (const one of found) {
+        (imports.get(one) ?? []).forEach((name) => found.add(name));
+    }
+    return [...found].filter((name) => modules.has(name));
+}
+
+equal('the modules that read trees', having(/\breadExactly\(|\breport\.Election\b|\{ Election \}|'ExternalIdentifier';/), Object.keys(READ_TREES).sort());
+equal('the modules that ask the proved code', having(/\berd\.(?!html|wasm)\w+\(/), ASK_THE_CORE);
+equal('the modules that read bytes', [...new Set(['places.mjs', ...importing('places.mjs'), ...importing('scanner.mjs')])].sort(), READ_BYTES);
+
+// The answers on differences, on ballots and on what a file has are made of what the proved code tells: no module that they need reads a
+// tree or bytes, or asks for anything else.
+const ANSWERS = ['ballot_answers.mjs', 'ballot_findings.mjs', 'difference_groups.mjs', 'overview.mjs'];
+const READERS = [...Object.keys(READ_TREES), ...ASK_THE_CORE, ...READ_BYTES];
+equal('what the answers need reads no file', neededBy(...ANSWERS).filter((name) => READERS.includes(name)), []);
+ANSWERS.forEach((name) => equal(`who makes the answers of ${name}`,
+    importing(name).filter((one) => !ANSWERS.includes(one) && !['inside.mjs'].includes(one)), ['judging.mjs']));
+// The page itself shows answers of the worker, and reads no report.
+equal('what the page needs reads no report', neededBy('page.mjs').filter((name) => [...Object.keys(READ_TREES), ...ASK_THE_CORE].includes(name)), []);
+
+// They are made with these answers of the proved code, and with no other.
+const judging = modules.get('judging.mjs');
+const madeWith = (name) => [...judging.matchAll(new RegExp(`new ${name}\\((.*)\\);`, 'g'))].map(([, words]) => words);
+equal('with what the answers on ballots are made', madeWith('BallotAnswers'),
+    ['this.words(tell), this.differingBallots(), (...question) => this.toldOfBallots(...question)']);
+equal('with what the sentences on ballots are made', madeWith('BallotFindings'), ['this.ballots(tell)']);
+equal('with what the list of differences is made', madeWith('Differences'),
+    ['differences, allDifferences, (key) => this.belowOf(key), words && words.map(({ called }) => called), this.seen']);
+equal('where the words come from', [judging.match(/this\.keptWords \?\?= .*;/g), modules.get('side.mjs').match(/(?<=return )wordsOf\(.*\);/g)],
+    [['this.keptWords ??= this.sides.map((side) => side.words(this.erd, this.prefer, tell));'], ['wordsOf(erd, this.bytes, prefer);']]);
+equal('what is told of one file beside that', [importing('unprinted.mjs'), [...judging.matchAll(/this\.unprinted\(/g)].length, madeWith('Overview')],
+    [['judging.mjs'], 1, ['this.words(tell)[0], this.ballots(tell).toldHeads(0), this.unprinted(tell)']]);
+const [, listing] = /differingBallots\(\) \{([^}]*\}[^}]*)\}/.exec(judging);
 equal('what the list of ballots that differ is', listing.includes("'erd_ballot_differences'"), true);
-// Nothing but the proved code says what ballots have on them, in which order, and what differs: no module that makes the answers reads the
-// content of a ballot out of a tree.
-const ANSWER = ['ballots.mjs', 'ballot_answers.mjs', 'ballot_changes.mjs', 'ballot_findings.mjs'];
-ANSWER.forEach((name) => equal(`${name} reads no content of a ballot`, /OrderedCont|HeaderId|GpUnitIds|orderedChanges/.test(modules.get(name)), false));
 const CALLS = ['erd_ballot', 'erd_ballots', 'erd_ballots_beside'];
 equal('what the answers ask', [...new Set(modules.get('ballot_answers.mjs').match(/(?<=')erd_\w+(?=')/g))].sort(), CALLS);
-// What shows answers makes none: it imports no module that reads a tree, but for words.
-const SHOW = ['seen_box.mjs', 'ballot_list.mjs', 'ballot_sentences.mjs', 'ballot_print.mjs', 'difference_list.mjs', 'result.mjs', 'record.mjs'];
-const WORDS_ALONE = ['ballots.mjs'];
-SHOW.forEach((name) => equal(`${name} reads no tree`, imports.get(name).filter((one) => Object.hasOwn(READ_TREES, one) && !WORDS_ALONE.includes(one)), []));
+// Nothing but the proved code says what ballots have on them, in which order, and who gets them. A name in quotes is that of a member.
+const CONTENT = /(?<!')\b(OrderedContent|OrderedContestSelectionIds|HeaderId|ContestId|GpUnitIds|BallotStyle)\b(?!')/;
+neededBy(...ANSWERS).forEach((name) => equal(`${name} reads no content of a ballot`, CONTENT.test(modules.get(name)), false));
 counts();

@@ -31,6 +31,7 @@ const VERDICTS = {
 const VALUES = {
     name: 'N', size: 7, most: 9, status: 7, count: 7, all: 9, from: 7, to: 9, differing: 2, group: 'A', error: 'E', language: 'L', type: 'T', left: 'L',
     right: 'R', object: 'O', member: 'M', parts: 'P', listed: 'X', shown: 'X', changed: 'X', choice: 'C', role: 'O', subject: 'S', what: 'W', rightClass: 'Y',
+    fewer: 2, steps: 'S', notes: 'N', line: 7, column: 9, command: 'C',
 };
 
 /** Each text with a meaning: its group, its key, and for each language what its words have to be. */
@@ -40,7 +41,7 @@ function meanings() {
         const heading = /^\[(.*)\]$/.exec(line);
         group = heading?.[1] ?? group;
         const [key, ...words] = line.split(' | ');
-        return heading ? [] : [{ group, key: `${group}.${key}`, words: words.map((one) => new RegExp(one)) }];
+        return heading ? [] : [{ group, key: group === 'page' ? key : `${group}.${key}`, words: words.map((one) => new RegExp(one)) }];
     });
 }
 
@@ -71,6 +72,10 @@ LANGUAGES.forEach((language, index) => {
         && one.words.test(other.text) && other.words.test(one.text)).map((other) => `${one.key} ${other.key}`));
     equal(`words, ${language}: texts that could be exchanged`, twins, []);
 });
+// A sentence that nobody has thought of would be held by nothing.
+const told = new Set(MEANINGS.map(({ key }) => key));
+equal('words: each sentence has words by hand', Object.entries(JSON.parse(textOf('web/texts.en.json')))
+    .filter(([key, text]) => (text.other ?? text).endsWith('.') && !told.has(key)).map(([key]) => key), []);
 equal('words: each paragraph on a fault has words', MEANINGS.filter(({ group }) => group === 'fixes').length, Object.keys(FIXES[0]).length);
 counts();
 

@@ -7,19 +7,15 @@ import json
 import os
 import random
 import subprocess
-import sys
 from xml.etree import ElementTree
 
 import answers
 from session import EXAMPLES, ROOT
-
-sys.path[:0] = [str(ROOT / 'bindings' / 'python' / folder) for folder in ('src', 'tests')]
-sys.path.append(str(ROOT / 'web'))
-import build  # noqa: E402
-import xml_reports  # noqa: E402
-from erd import from_xml  # noqa: E402
-from xml_reports import in_version  # noqa: E402
-from xml_writer import born_of, mutant_of, seen, xml_of  # noqa: E402
+import build
+import xml_reports
+from erd import from_xml
+from xml_reports import in_version
+from xml_writer import born_of, mutant_of, seen, xml_of
 
 COUNT = 1000
 COUNT_BORN = 250

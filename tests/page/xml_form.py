@@ -3,19 +3,16 @@ XML is written by the writer of the tests of the Python package, from memory of 
 import csv
 import io
 import json
-import sys
 
 import answers
 from bounds import tries_of
-from session import EXAMPLES, ROOT, report_of_units, sha256
+from session import EXAMPLES, report_of_units, sha256
 from spanish import TEXTS, speak
-
-sys.path[:0] = [str(ROOT / 'bindings' / 'python' / folder) for folder in ('src', 'tests')]
-import xml_reports  # noqa: E402
-from erd import from_xml  # noqa: E402
-from erd.from_xml.__main__ import line_of  # noqa: E402
-from xml_reports import in_version  # noqa: E402
-from xml_writer import born_of, xml_of  # noqa: E402
+import xml_reports
+from erd import from_xml
+from erd.from_xml.__main__ import line_of
+from xml_reports import in_version
+from xml_writer import born_of, xml_of
 
 WORDS = 'converted from XML by this page, which no proof covers'
 BORN_WORDS = 'JSON made from XML, converted by this page, which no proof covers'

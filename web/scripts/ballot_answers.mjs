@@ -1,13 +1,11 @@
 // What the worker answers on the ballots of one file or two: which styles there are, which of them differ, and one ballot. All of this comes
-// from the proved code, and the words from the canonical form.
+// from the proved code, and so do the words.
 import { orderOfKeys, textOfKey } from '../../bindings/js/lib/order.mjs';
 import { besideItself, BothBallots, mergedLines } from './ballot_changes.mjs';
 import { BallotWords } from './ballots.mjs';
 import { aroundOf, unitsAround } from './overview.mjs';
 import { hasWords } from './search.mjs';
 import { shortened } from './visible.mjs';
-
-const LANGUAGE_STRING = 'ElectionResults.LanguageString';
 
 /** How many lines of a ballot are shown at once. A long text counts as several. */
 const MOST_LINES = 500;
@@ -22,16 +20,16 @@ const MOST_KEPT = 20;
 
 export class BallotAnswers {
     /**
-     * @param {import('./meaning.mjs').Meaning[]} meanings of one file, or of the left and the right one
+     * @param {import('./report_words.mjs').ReportWords[]} reports of one file, or of the left and the right one
      * @param {{key: string[], left: number | null, right: number | null, below: string}[]} differing what `erd_ballot_differences` answers
      * @param {(call: string, sides: number[], ...positions: number[]) => any} ask what another call of the proved code answers on the ballots of
      *     these files: docs/API.md, "Ballots"
      */
-    constructor(meanings, differing, ask) {
-        this.meanings = meanings;
+    constructor(reports, differing, ask) {
+        this.reports = reports;
         this.ask = ask;
-        this.words = meanings.map((meaning) => new BallotWords(meaning));
-        this.told = meanings.map((_, side) => new Map(ask('erd_ballots', [side]).map((head) => [textOfKey(head.key), head])));
+        this.words = reports.map((report) => new BallotWords(report));
+        this.told = reports.map((_, side) => new Map(ask('erd_ballots', [side]).map((head) => [textOfKey(head.key), head])));
         this.differing = new Map(differing.map((one) => [textOfKey(one.key), one]));
         this.kept = new Map();
     }
@@ -41,10 +39,9 @@ export class BallotAnswers {
         return [...this.told[side].values()];
     }
 
-    /** The languages of all texts. */
+    /** The languages of all words. */
     languages() {
-        this.keptLanguages ??= [...new Set(this.meanings.flatMap(({ report }) => languagesIn(report)))].sort();
-        return this.keptLanguages;
+        return [...new Set(this.reports.flatMap(({ languages }) => languages))].sort();
     }
 
     /**
@@ -68,15 +65,15 @@ export class BallotAnswers {
 
     // What a ballot style is found by: what it is called, and the names, numbers and codes of its units and of those around them.
     wordsOf({ key, code, units, parties }) {
-        this.around ??= this.meanings.map(aroundOf);
-        const found = this.told.flatMap((heads, side) => unitsAround((heads.get(key)?.units ?? []).map((unit) => this.meanings[side].thing('unit', unit)),
+        this.around ??= this.reports.map(aroundOf);
+        const found = this.told.flatMap((heads, side) => unitsAround((heads.get(key)?.units ?? []).map((unit) => this.reports[side].thing('unit', unit)),
             this.around[side]));
         return [code, ...units, ...parties, ...found.flatMap(wordsOfUnit)];
     }
 
     /** The head of each style, with whether it differs. */
     heads() {
-        this.keptHeads ??= this.keys().map((key) => ({ key, ...this.headsOf(key, (words, told) => words.head(told))[1], mark: this.markOf(key) }));
+        this.keptHeads ??= this.keys().map((key) => ({ key, ...this.inBoth(key, (side, head) => this.words[side].head(head))[1], mark: this.markOf(key) }));
         return this.keptHeads;
     }
 
@@ -86,10 +83,15 @@ export class BallotAnswers {
         return [...told].sort(([, one], [, other]) => orderOfKeys(one.key, other.key)).map(([key]) => key);
     }
 
-    // Something of the head of a style in each file. That of a file which lacks the style is that of the other.
-    headsOf(key, made) {
-        const some = this.told.map((heads, side) => (heads.has(key) ? made(this.words[side], heads.get(key)) : null)).filter((one) => one !== null);
+    // Something of a style in each file, of its head. That of a file which lacks the style is that of the other.
+    inBoth(key, made) {
+        const some = this.sidesOf(key).map((side) => made(side, this.told[side].get(key)));
         return [some[0], some.at(-1)];
+    }
+
+    // The files that have a style.
+    sidesOf(key) {
+        return [...this.told.keys()].filter((side) => this.told[side].has(key));
     }
 
     markOf(key) {
@@ -107,7 +109,7 @@ export class BallotAnswers {
 
     /** The first lines of the ballot of a style in each file: of its election, and of whoever gets it. */
     linesOf(key) {
-        return this.headsOf(key, (words, told) => words.lines(told));
+        return this.inBoth(key, (side, head) => this.words[side].lines(head));
     }
 
     /**
@@ -130,16 +132,15 @@ export class BallotAnswers {
     }
 
     madeBallots(key) {
-        const places = this.told.map((heads) => heads.get(key)?.at);
-        const there = [...places.keys()].filter((side) => places[side] !== undefined);
-        const told = there.length === 2 ? this.ask('erd_ballots_beside', there, ...places)
-            : besideItself(this.ask('erd_ballot', there, places[there[0]]).lines);
-        return new BothBallots(told, [this.words[there[0]], this.words[there.at(-1)]]);
+        const sides = this.sidesOf(key);
+        const places = sides.map((side) => this.told[side].get(key).at);
+        const told = sides.length === 2 ? this.ask('erd_ballots_beside', sides, ...places) : besideItself(this.ask('erd_ballot', sides, ...places).lines);
+        return new BothBallots(told, this.inBoth(key, (side) => this.words[side]));
     }
 }
 
-function wordsOfUnit({ title, object: { Number: number = '', ExternalIdentifier } }) {
-    return [title ?? '', String(number), ...ExternalIdentifier.map(({ Value }) => Value)];
+function wordsOfUnit({ title, words: { Number: number = '' }, key }) {
+    return [title ?? '', String(number), key[2]];
 }
 
 // Items from a place on, as many as a reader is shown at once. A contest with more lines than that is shown in parts too.
@@ -174,12 +175,4 @@ function lengthOf(lines) {
 function linesBelow(text) {
     const lines = text.split('\n').slice(0, -1);
     return { below: lines.slice(0, MOST_BELOW).map((line) => shortened(line, LONGEST_BELOW)), allBelow: lines.length };
-}
-
-function languagesIn(value) {
-    if (value === null || typeof value !== 'object') {
-        return [];
-    }
-    const own = value['@type'] === LANGUAGE_STRING && typeof value.Language === 'string' ? [value.Language] : [];
-    return [...own, ...Object.values(value).flatMap(languagesIn)];
 }

@@ -69,7 +69,7 @@ class BallotThings {
     // What differs on a ballot of both files, of its first lines in each file and what the proved code says.
     of(heads, below) {
         const told = linesIn(below);
-        const words = reworded(OF_STYLE, mergedLines(...heads));
+        const words = reworded(OF_STYLE, mergedLines(...heads.map((lines) => lines.filter(({ role }) => VOTERS.has(role)))));
         const voters = told.filter(({ kind }) => VOTERS.has(kind) && !words.some(({ role }) => role === kind));
         const lines = told.filter(({ kind }) => !VOTERS.has(kind));
         const hasOther = otherIdentifiers(lines, ({ how, kind, key }) => `${kind} ${this.sideOf(how).words(kind, key).print}`);

@@ -1,7 +1,6 @@
-// The words of what ballots have on them: of headers, contests and selections, in each language of the file. The proved code says which of
-// them a ballot has; here they are looked up in the canonical form by their keys. No proof covers the words.
-import { compactText } from '../../bindings/js/lib/exact.mjs';
-import { orderOfKeys } from '../../bindings/js/lib/order.mjs';
+// The lines of what ballots have on them: of headers, contests and selections, in each language of the file. The proved code says which of
+// them a ballot has, and their words; here the words are put in lines. No proof covers that.
+import { textOfKey } from '../../bindings/js/lib/order.mjs';
 import { say, sayIfKnown } from './texts.mjs';
 import { textOfTriple } from './values.mjs';
 
@@ -25,9 +24,9 @@ const NO_COUNT = new Set(['rcv', 'borda', 'range']);
 
 /** The words of the ballots of one report. */
 export class BallotWords {
-    /** @param {import('./meaning.mjs').Meaning} meaning */
-    constructor(meaning) {
-        this.meaning = meaning;
+    /** @param {import('./report_words.mjs').ReportWords} report */
+    constructor(report) {
+        this.report = report;
         this.kept = new Map();
     }
 
@@ -37,15 +36,15 @@ export class BallotWords {
     }
 
     namesOf(part, keys) {
-        return keys.map((key) => this.meaning.thing(part, key)).map(({ title, key }) => title ?? textOfTriple(key)).sort();
+        return keys.map((key) => this.report.thing(part, key)).map(({ title, key }) => title ?? textOfTriple(key)).sort();
     }
 
-    /** The first lines of a ballot: its election, its units and its parties. */
+    /** The first lines of a ballot: its election, its units and its parties. Of several elections the proved code does not tell which it is. */
     lines(told) {
         const { units, parties } = this.head(told);
-        const { Name, StartDate } = this.meaning.thing('election', this.meaning.thing('style', told.key).election).object;
+        const [{ words: { Name, StartDate } }, ...others] = this.report.of('election').values();
         return [
-            { role: 'election', label: labelOf(Name) }, plainLine('date', StartDate), plainLine('units', units.join(', ')),
+            ...(others.length > 0 ? [] : [{ role: 'election', label: labelOf(Name) }, plainLine('date', StartDate)]), plainLine('units', units.join(', ')),
             ...(parties.length > 0 ? [plainLine('parties', parties.join(', '))] : []),
         ];
     }
@@ -59,29 +58,20 @@ export class BallotWords {
     words(kind, key) {
         const name = `${kind} ${key}`;
         if (!this.kept.has(name)) {
-            const { object } = this.meaning.things.get(kind).get(key);
-            this.kept.set(name, kind === 'header' ? wordsOf([{ role: 'title', label: labelOf(object.Name) }]) : this.contest(object));
+            const thing = this.report.of(kind).get(key);
+            this.kept.set(name, kind === 'header' ? wordsOf([{ role: 'title', label: labelOf(thing.words.Name) }]) : this.contest(thing));
         }
         return this.kept.get(name);
     }
 
-    contest(object) {
-        const selections = new Map((object.ContestSelection ?? []).map((selection) => [this.nameOf(selection), this.selection(selection)]));
-        return { ...wordsOf(this.linesOfContest(object)), selections, lacking: this.lackingIn(titleOf(object)) };
-    }
-
-    // The text of the name of a selection, as the proved code tells it: docs/API.md, "Inside selections".
-    nameOf({ '@type': kind, CandidateIds, PartyIds, IsWriteIn, SequenceOrder, Selection, ...others }) {
-        const [isOfCandidates, isOfMeasure] = ['CandidateSelection', 'BallotMeasureSelection'].map((name) => kind === `ElectionResults.${name}`);
-        const references = (isOfCandidates ? CandidateIds : isOfMeasure ? [] : PartyIds) ?? [];
-        const keys = references.map((reference) => this.meaning.named.get(reference).key).sort(orderOfKeys);
-        return compactText([kind, keys, isOfCandidates && IsWriteIn === true, SequenceOrder ?? null,
-            isOfMeasure ? compactText(Selection) : null, this.meaning.keyOf(others)]);
+    contest({ words, selections }) {
+        const own = new Map([...selections].map(([name, one]) => [name, this.selection(one)]));
+        return { ...wordsOf(this.linesOfContest(words)), selections: own, lacking: this.lackingIn(titleOf(words)) };
     }
 
     // Which languages of the titles of contests a title is not in.
     lackingIn(title) {
-        this.languages ??= [...new Set([...this.meaning.things.get('contest').values()].flatMap(({ object }) => languagesOf(titleOf(object))))].sort();
+        this.languages ??= [...new Set([...this.report.of('contest').values()].flatMap(({ words }) => languagesOf(titleOf(words))))].sort();
         const own = languagesOf(title);
         return own.length === 0 && this.languages.length > 0 ? [''] : this.languages.filter((language) => !own.includes(language));
     }
@@ -99,15 +89,15 @@ export class BallotWords {
 
     // Who is to stay in office.
     retained({ CandidateId }) {
-        return CandidateId === undefined ? [] : this.linesOfCandidate('candidate', this.meaning.named.get(CandidateId).object);
+        return CandidateId === undefined ? [] : this.linesOfCandidate('candidate', this.report.thing('candidate', CandidateId).words);
     }
 
     // The name of a candidate, and what the file says of the person.
     linesOfCandidate(role, { BallotName, PersonId, IsIncumbent }) {
-        const person = PersonId === undefined ? {} : this.meaning.named.get(PersonId).object;
+        const { Profession } = PersonId === undefined ? {} : this.report.thing('person', PersonId).words;
         return [
             { role, label: labelOf(BallotName) },
-            ...(person.Profession === undefined ? [] : [{ role: 'profession', label: labelOf(person.Profession) }]),
+            ...(Profession === undefined ? [] : [{ role: 'profession', label: labelOf(Profession) }]),
             ...(IsIncumbent === true ? [ownLine('incumbent', say('ballot.incumbent'))] : []),
         ];
     }
@@ -118,19 +108,19 @@ export class BallotWords {
         return wordsOf(lines.length > 0 ? lines : [ownLine('writeIn', say('value.noName'))]);
     }
 
-    namesOfSelection({ CandidateIds, PartyIds, EndorsementPartyIds, Selection }) {
-        const candidates = topFirst((CandidateIds ?? []).map((reference) => this.meaning.named.get(reference).object));
-        const parties = new Set(EndorsementPartyIds ?? candidates.map(({ PartyId }) => PartyId).filter((party) => party !== undefined));
+    namesOfSelection({ CandidateIds = [], PartyIds = [], EndorsementPartyIds, Selection }) {
+        const candidates = topFirst(CandidateIds.map((key) => this.report.thing('candidate', key).words));
+        const parties = EndorsementPartyIds ?? candidates.map(({ PartyId }) => PartyId).filter((party) => party !== undefined);
         return [
             ...candidates.flatMap((candidate) => this.linesOfCandidate('name', candidate)),
             ...(Selection === undefined ? [] : [{ role: 'name', label: labelOf(Selection) }]),
-            ...(PartyIds ?? []).map((reference) => this.party(reference, 'name')),
-            ...[...parties].map((reference) => this.party(reference, 'party')),
+            ...PartyIds.map((key) => this.party(key, 'name')),
+            ...new Map(parties.map((key) => [textOfKey(key), this.party(key, 'party')])).values(),
         ];
     }
 
-    party(reference, role) {
-        return { role, label: labelOf(this.meaning.named.get(reference).object.Name) };
+    party(key, role) {
+        return { role, label: labelOf(this.report.thing('party', key).words.Name) };
     }
 }
 

@@ -1,6 +1,6 @@
 // A difference of two files: in plain words, and with both values beside each other.
 import { paragraphs } from './faults.mjs';
-import { element, long, saidWith, theirs, withWhole } from './dom.mjs';
+import { element, long, saidWith, theirs, wideTable, withWhole } from './dom.mjs';
 import { say, sayIfKnown } from './texts.mjs';
 import { textOfTriple } from './values.mjs';
 import { beginningOf, endOf } from './visible.mjs';
@@ -181,8 +181,5 @@ function absent(key) {
 function table(groups, names) {
     const bodies = groups.map(({ heading, rows }) => element('tbody', {},
         element('tr', {}, element('th', { scope: 'rowgroup', colspan: '2', class: 'group' }, heading)), ...rows));
-    return element('div', { class: 'scrolled', tabindex: '0', role: 'group', 'aria-label': say('difference.caption') },
-        element('table', { class: 'sides' },
-            element('caption', { class: 'visually-hidden' }, say('difference.caption')),
-            element('thead', {}, element('tr', {}, ...names.map((name) => element('th', { scope: 'col' }, theirs(name))))), ...bodies));
+    return wideTable(say('difference.caption'), 'sides', names.map((name) => theirs(name)), ...bodies);
 }

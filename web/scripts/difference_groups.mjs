@@ -36,7 +36,7 @@ export class Differences {
             return 'in doubt';
         }
         const [one] = this.called.map((ofSide) => ofSide(entry.part, entry.key)).filter((found) => found !== undefined);
-        return wordOf(seen, entry, one.className);
+        return wordOf(seen, entry, one?.className);
     }
 
     /**

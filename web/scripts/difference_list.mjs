@@ -1,6 +1,6 @@
 // The list of all differences: how many objects of each kind differ, and each difference.
 import { differenceEntry, memberWords } from './comparison.mjs';
-import { button, element, saidWith, theirs } from './dom.mjs';
+import { button, element, saidWith, theirs, wideTable } from './dom.mjs';
 import { GrowingList } from './growing.mjs';
 import { folded } from './on_request.mjs';
 import { numberText, say } from './texts.mjs';
@@ -94,10 +94,7 @@ function talliesShown(tallies, names) {
     const rows = tallies.map(({ part, differ, members, 'only left': left, 'only right': right }) => element('tr', {},
         element('th', { scope: 'row' }, say(`parts.${part}`)),
         ...[differ, members, left, right].map((count) => element('td', {}, count === 0 ? '' : numberText(count)))));
-    return element('div', { class: 'scrolled', tabindex: '0', role: 'group', 'aria-label': say('tally.caption') },
-        element('table', { class: 'tallies' }, element('caption', { class: 'visually-hidden' }, say('tally.caption')),
-            element('thead', {}, element('tr', {}, ...heads.map((head) => element('th', { scope: 'col' }, head)))),
-            element('tbody', {}, ...rows)));
+    return wideTable(say('tally.caption'), 'tallies', heads, element('tbody', {}, ...rows));
 }
 
 /**

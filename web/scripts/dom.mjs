@@ -29,6 +29,13 @@ export function button(text, onClick, attributes = {}) {
     return element('button', { type: 'button', click: onClick, ...attributes }, text);
 }
 
+/** A table that is scrolled where it is too wide: what it has, its class, its heads, and its bodies. */
+export function wideTable(caption, name, heads, ...bodies) {
+    return element('div', { class: 'scrolled', tabindex: '0', role: 'group', 'aria-label': caption },
+        element('table', { class: name }, element('caption', { class: 'visually-hidden' }, caption),
+            element('thead', {}, element('tr', {}, ...heads.map((head) => element('th', { scope: 'col' }, head)))), ...bodies));
+}
+
 /** A text of the table, in which a value may be a node. */
 export function saidWith(key, nodes, values = {}) {
     const parts = say(key, { ...values, ...Object.fromEntries(Object.keys(nodes).map((name) => [name, `\0${name}\0`])) }).split('\0');

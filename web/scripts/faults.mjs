@@ -52,7 +52,7 @@ export class FaultCards {
         });
         return element('li', { class: 'card', 'data-reason': String(reason) },
             element('h4', { tabindex: '-1' }, say(`reason.${reason}`), ' ', element('span', { class: 'count' }, say('faults.places', { count }))),
-            ...paragraphs(fix.meaning), names.length === 0 ? null : namesShown(names), this.fixing(fix), this.file.isReport ? remedyShown(reason) : null,
+            ...paragraphs(fix.meaning), names.length === 0 ? null : namesShown(names), fixShown(fix, true), this.file.isReport ? remedyShown(reason) : null,
             ...await list.begun());
     }
 
@@ -72,11 +72,12 @@ export class FaultCards {
         const { index } = this.file;
         return excerptShown(excerpt, () => this.client.ask('part', { index, start, end }));
     }
+}
 
-    fixing(fix) {
-        return element('details', { open: true }, element('summary', {}, say('faults.fix')),
-            ...paragraphs(fix.fixing), element('p', { class: 'label' }, say('faults.origin')), ...paragraphs(fix.origin));
-    }
+/** How a kind of fault is fixed, and where it comes from. */
+export function fixShown({ fixing, origin }, isOpen) {
+    return element('details', { open: isOpen }, element('summary', {}, say('faults.fix')),
+        ...paragraphs(fixing), element('p', { class: 'label' }, say('faults.origin')), ...paragraphs(origin));
 }
 
 // The steps that may fix faults of a kind, or that none can, and what to write to the vendor.

@@ -5,17 +5,18 @@ import { BallotFindings } from './ballot_findings.mjs';
 import { boundedPointer, LONGEST_POINTER } from './bounded.mjs';
 import { Differences } from './difference_groups.mjs';
 import { excerptOf } from './excerpt.mjs';
-import { Meaning } from './meaning.mjs';
 import { foundPlaces } from './places.mjs';
 import { Overview } from './overview.mjs';
 import { ownTypes, typesTold, withoutTypes } from './own_view.mjs';
 import { Preparing } from './preparing.mjs';
 import { isNoMemory, Side } from './side.mjs';
+import { readExactly } from '../../bindings/js/lib/exact.mjs';
 import { textOfKey } from '../../bindings/js/lib/order.mjs';
 import { trailOf } from './trail.mjs';
+import { unprintedIn } from './unprinted.mjs';
 import { shortened } from './visible.mjs';
 
-/** The most bytes of two canonical forms that are read for the names of objects. */
+/** The most bytes of two canonical forms whose objects are named. */
 const MOST_WITH_NAMES = 80_000_000;
 
 /** The most characters of a pointer that the page is told. */
@@ -181,8 +182,8 @@ export class Judgement {
     differencesOf({ differences, allDifferences }, tell) {
         const forms = this.sides.map((side) => side.canonical(this.erd, this.prefer, tell));
         const isNamed = !forms.includes(null) && forms[0].length + forms[1].length <= MOST_WITH_NAMES;
-        const called = isNamed ? this.meanings(tell).map((meaning) => meaning.called) : null;
-        return new Differences(differences, allDifferences, (key) => this.belowOf(key), called, this.seen);
+        const words = isNamed ? this.unlessNoMemory(() => this.words(tell)) : null;
+        return new Differences(differences, allDifferences, (key) => this.belowOf(key), words && words.map(({ called }) => called), this.seen);
     }
 
     // The proved list with its values, or its beginning; null if there is no memory for it.
@@ -248,28 +249,28 @@ export class Judgement {
         if (!this.differencesKept(tell)?.hasWords) {
             return null;
         }
-        this.keptTypes ??= ownTypes(this.meanings(tell).map(({ report }) => report));
+        this.keptTypes ??= ownTypes(this.sides.map((side) => side.canonical(this.erd, this.prefer, tell)));
         return typesTold(this.keptTypes);
     }
 
     /** What the proved code says of copies without the identifiers of these types: null where it does not accept them. */
     ownView(question, tell) {
         const types = this.ownTypes(question, tell);
-        const copies = this.meanings(tell).map(({ report }, index) => withoutTypes(report, this.keptTypes[index]));
+        const copies = this.sides.map((side, index) => withoutTypes(side.canonical(this.erd, this.prefer, tell), this.keptTypes[index]));
         tell({ stage: 'comparing' });
         const { side, allDifferences } = this.erd.differences(...copies, { prefer: this.prefer, mostDifferences: 1 });
         return { types, count: side === null ? allDifferences : null };
     }
 
-    // What the canonical forms say.
-    meanings(tell = () => {}) {
-        this.keptMeanings ??= this.sides.map((side) => new Meaning(side.report(this.erd, this.prefer, tell), this.prefer));
-        return this.keptMeanings;
+    // The words of each report.
+    words(tell) {
+        this.keptWords ??= this.sides.map((side) => side.words(this.erd, this.prefer, tell));
+        return this.keptWords;
     }
 
-    // What the ballots look like: what the proved code answers on them, with the words of the canonical forms.
+    // What the ballots look like: what the proved code answers on them, with the words that it lists.
     ballots(tell) {
-        this.keptBallots ??= new BallotAnswers(this.meanings(tell), this.differingBallots(), (...question) => this.toldOfBallots(...question));
+        this.keptBallots ??= new BallotAnswers(this.words(tell), this.differingBallots(), (...question) => this.toldOfBallots(...question));
         return this.keptBallots;
     }
 
@@ -295,8 +296,13 @@ export class Judgement {
     }
 
     keptOverview(tell) {
-        this.overviewOfFile ??= new Overview(this.meanings(tell)[0], this.seen, this.ballots(tell).toldHeads(0));
+        this.overviewOfFile ??= new Overview(this.words(tell)[0], this.ballots(tell).toldHeads(0), this.unprinted(tell));
         return this.overviewOfFile;
+    }
+
+    // What the ballots of the only file leave out.
+    unprinted(tell) {
+        return unprintedIn(readExactly(this.canonical({ index: 0 }, tell)), this.words(tell)[0], this.seen);
     }
 
     /** How many things differ on the ballots. */

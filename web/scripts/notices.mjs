@@ -1,6 +1,6 @@
 // What a reader should know beside the verdict: the envelope, which is not compared, and notes that differ.
 import { withoutMark } from './copy_mark.mjs';
-import { element, long, saidWith, theirs } from './dom.mjs';
+import { element, long, saidWith, theirs, wideTable } from './dom.mjs';
 import { ENVELOPE } from './envelope.mjs';
 import { say } from './texts.mjs';
 
@@ -23,9 +23,7 @@ function namesOf(names) {
 export function envelopeTable(envelopes, names) {
     const rows = ENVELOPE.filter((name) => envelopes.some((envelope) => Object.hasOwn(envelope, name)))
         .map((name) => rowOf(name, envelopes.map((envelope) => envelope[name] ?? null)));
-    return element('div', { class: 'scrolled', tabindex: '0', role: 'group', 'aria-label': say('envelope.caption') },
-        element('table', { class: 'sides' }, element('caption', { class: 'visually-hidden' }, say('envelope.caption')),
-            element('thead', {}, element('tr', {}, ...names.map((name) => element('th', { scope: 'col' }, theirs(name))))), ...rows));
+    return wideTable(say('envelope.caption'), 'sides', names.map((name) => theirs(name)), ...rows);
 }
 
 function rowOf(name, values) {

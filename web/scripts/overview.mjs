@@ -1,9 +1,10 @@
-// What a file has: how many objects of each kind, which ballot styles each precinct has, and contests that no ballot has. The units of the
-// ballot styles come from the proved code; all else is the page's own reading of the canonical form.
+// What a file has: how many objects of each kind, and which ballot styles each precinct has. The objects and the ballot styles come from the
+// proved code; what ballots leave out is the page's own reading of the canonical form.
+import { textOfKey } from '../../bindings/js/lib/order.mjs';
 import { orderForReader } from './texts.mjs';
-import { showsOf } from './seen.mjs';
 import { textOfTriple } from './values.mjs';
 
+const PARTS = ['contest', 'candidate', 'party', 'office', 'person', 'header', 'unit'];
 const PRECINCTS = new Set(['precinct', 'split-precinct', 'combined-precinct']);
 
 /** The most names of a list that are told at once, and the most units around a precinct that are looked at. */
@@ -13,81 +14,89 @@ const MOST_STYLES = 20;
 
 export class Overview {
     /**
-     * @param {import('./meaning.mjs').Meaning} meaning
-     * @param {Record<string, Record<string, string>>} seen what a voter sees: the table of docs/PROFILE.md
+     * @param {import('./report_words.mjs').ReportWords} words
      * @param {{key: string[], parties: string[][], units: string[][]}[]} heads what `erd_ballots` tells of the ballot styles
+     * @param {ReturnType<typeof import('./unprinted.mjs').unprintedIn>} unprinted what ballots leave out
      */
-    constructor(meaning, seen, heads) {
-        this.meaning = meaning;
-        this.seen = seen;
-        this.rows = precinctsOf(meaning, heads);
+    constructor(words, heads, { elections, contests, members }) {
+        Object.assign(this, { words, heads, elections, members });
+        this.unlisted = contests.map(namesOf).sort(byName);
+        this.rows = this.precinctRows();
         this.groups = { all: this.rows, none: this.rows.filter(({ count }) => count === 0), several: this.rows.filter(({ several }) => several) };
     }
 
     /** The counts of objects and of precincts, the contests that no ballot has, and the members that no ballot shows. */
     told() {
-        const counts = Object.fromEntries([...this.meaning.things].map(([part, things]) => [part, things.size]));
-        const groups = Object.fromEntries(Object.entries(this.groups).map(([name, rows]) => [name, rows.length]));
-        const unlisted = unlistedContests(this.meaning);
-        return { counts, precincts: groups, unlisted: { count: unlisted.length, names: unlisted.slice(0, MOST_NAMED) },
-            hidden: membersNotShown(this.meaning, this.seen) };
+        const counts = { style: this.heads.length, ...Object.fromEntries(PARTS.map((part) => [part, this.words.of(part).size])) };
+        const precincts = Object.fromEntries(Object.entries(this.groups).map(([name, rows]) => [name, rows.length]));
+        const hidden = Object.entries(this.members).map(([name, kinds]) => [name, { count: kinds.length, kinds: kinds.slice(0, MOST_NAMED) }]);
+        return { counts, precincts, unlisted: { count: this.unlisted.length, names: this.unlisted.slice(0, MOST_NAMED) }, hidden: Object.fromEntries(hidden) };
     }
 
     /** Some precincts of a group, each with the codes of its ballot styles. */
     precincts({ group, from, count }) {
         return this.groups[group].slice(from, from + count);
     }
+
+    // The precincts that have no precinct in them, by name. A ballot style is for a precinct if it names it or a unit around it.
+    precinctRows() {
+        const around = aroundOf(this.words);
+        const styles = this.stylesByUnit();
+        const isOuter = (unit) => partsOf(unit, this.words).some(isPrecinct);
+        return [...this.words.of('unit').values()].filter((unit) => isPrecinct(unit) && !isOuter(unit))
+            .map((unit) => this.rowOf(unit, stylesOf(unit, around, styles))).sort(byName);
+    }
+
+    rowOf(unit, styles) {
+        const codes = styles.map((style) => textOfTriple(style.key));
+        return { ...namesOf(unit), count: styles.length, codes: codes.slice(0, MOST_STYLES), several: this.isRepeated(styles) };
+    }
+
+    // Two ballot styles of one election for the same parties: nothing says which one a voter gets.
+    isRepeated(styles) {
+        const kinds = styles.map(({ key, parties }) => JSON.stringify([this.elections.get(textOfKey(key)), parties]));
+        return new Set(kinds).size < kinds.length;
+    }
+
+    stylesByUnit() {
+        const styles = new Map();
+        for (const style of this.heads) {
+            for (const key of style.units) {
+                const unit = this.words.thing('unit', key);
+                const there = styles.get(unit) ?? [];
+                there.push(style);
+                styles.set(unit, there);
+            }
+        }
+        return styles;
+    }
 }
 
-// The precincts that have no precinct in them, by name. A ballot style is for a precinct if it names it or a unit around it.
-function precinctsOf(meaning, heads) {
-    const units = [...meaning.things.get('unit').values()];
-    const around = aroundOf(meaning);
-    const styles = stylesByUnit(meaning, heads);
-    const isOuter = (unit) => (unit.object.ComposingGpUnitIds ?? []).some((reference) => isPrecinct(meaning.named.get(reference)));
-    return units.filter((unit) => isPrecinct(unit) && !isOuter(unit)).map((unit) => rowOf(meaning, unit, stylesOf(unit, around, styles)))
-        .sort((one, other) => orderForReader(one.name, other.name) || orderForReader(one.code, other.code));
+function namesOf({ title, key }) {
+    return { name: title ?? '', code: textOfTriple(key) };
 }
 
-function isPrecinct(unit) {
-    return PRECINCTS.has(unit.object.Type);
+function byName(one, other) {
+    return orderForReader(one.name, other.name) || orderForReader(one.code, other.code);
 }
 
-function rowOf(meaning, unit, styles) {
-    const codes = styles.map((style) => textOfTriple(style.key));
-    return { name: unit.title ?? '', code: textOfTriple(unit.key), count: styles.length, codes: codes.slice(0, MOST_STYLES),
-        several: isRepeated(meaning, styles) };
+function isPrecinct({ words: { Type } }) {
+    return PRECINCTS.has(Type);
 }
 
-// Two ballot styles of one election for the same parties: nothing says which one a voter gets.
-function isRepeated(meaning, styles) {
-    const kinds = styles.map(({ key, parties }) => JSON.stringify([meaning.thing('style', key).election, parties]));
-    return new Set(kinds).size < kinds.length;
+function partsOf({ words: { ComposingGpUnitIds = [] } }, words) {
+    return ComposingGpUnitIds.map((key) => words.thing('unit', key));
 }
 
 /** The units of which each unit is a part. */
-export function aroundOf(meaning) {
+export function aroundOf(words) {
     const around = new Map();
-    for (const unit of meaning.things.get('unit').values()) {
-        for (const reference of unit.object.ComposingGpUnitIds ?? []) {
-            const part = meaning.named.get(reference);
+    for (const unit of words.of('unit').values()) {
+        for (const part of partsOf(unit, words)) {
             around.set(part, [...around.get(part) ?? [], unit].slice(0, MOST_AROUND));
         }
     }
     return around;
-}
-
-function stylesByUnit(meaning, heads) {
-    const styles = new Map();
-    for (const style of heads) {
-        for (const key of style.units) {
-            const unit = meaning.thing('unit', key);
-            const there = styles.get(unit) ?? [];
-            there.push(style);
-            styles.set(unit, there);
-        }
-    }
-    return styles;
 }
 
 /** Units, and what is around them. */
@@ -104,36 +113,4 @@ export function unitsAround(units, around) {
 // The ballot styles of a unit and of all that is around it.
 function stylesOf(unit, around, styles) {
     return [...new Set(unitsAround([unit], around).flatMap((one) => (styles.get(one) ?? []).slice(0, MOST_AROUND)))];
-}
-
-// The contests that no ballot has, by name.
-function unlistedContests(meaning) {
-    const listed = new Set();
-    for (const { object } of meaning.things.get('style').values()) {
-        const waiting = [object.OrderedContent ?? []];
-        while (waiting.length > 0) {
-            for (const { ContestId, OrderedContent } of waiting.pop()) {
-                listed.add(ContestId);
-                waiting.push(OrderedContent ?? []);
-            }
-        }
-    }
-    return [...meaning.things.get('contest').values()].filter(({ object }) => !listed.has(object['@id']))
-        .map((contest) => ({ name: contest.title ?? '', code: textOfTriple(contest.key) })).sort((one, other) => orderForReader(one.name, other.name));
-}
-
-// The members that no ballot of the page shows, with how many objects have them: those that a voter may see by the table, and the others.
-// That a flag is off is no more than that it is not there.
-function membersNotShown(meaning, seen) {
-    const found = { maybe: new Map(), unseen: new Map() };
-    for (const thing of [...meaning.things.values()].flatMap((things) => [...things.values()])) {
-        for (const member of meaning.members(thing).filter((name) => thing.object[name] !== false && !showsOf(meaning, thing, name))) {
-            const words = seen[thing.className] ?? {};
-            const kinds = found[Object.hasOwn(words, member) && words[member] === 'unseen' ? 'unseen' : 'maybe'];
-            const name = JSON.stringify([thing.part, member]);
-            kinds.set(name, { part: thing.part, how: 'member', member, count: (kinds.get(name)?.count ?? 0) + 1 });
-        }
-    }
-    return Object.fromEntries(Object.entries(found).map(([name, kinds]) => [name, {
-        count: kinds.size, kinds: [...kinds.values()].sort((one, other) => other.count - one.count).slice(0, MOST_NAMED) }]));
 }

@@ -7,7 +7,7 @@ import { plainName } from './from_xml/shown.mjs';
 import { sumShown } from './sums.mjs';
 import { numberText, say, sayIfKnown } from './texts.mjs';
 
-const GROUPS = ['removed', 'filled-in', 'visible'];
+const GROUPS = ['removed', 'filled-in', 'visible', 'view'];
 
 /** How many milliseconds an answer may take before its progress is shown. */
 const BEFORE_PROGRESS = 300;

@@ -1,7 +1,7 @@
 // What is wrong with files that are refused or not JSON. What helps to fix a refused file stands here too, a section each.
 import { element, saidWith, theirs } from './dom.mjs';
 import { excerptShown } from './excerpts.mjs';
-import { FaultCards, paragraphs } from './faults.mjs';
+import { FaultCards, fixShown } from './faults.mjs';
 import { CopyMaker } from './prepare_copy.mjs';
 import { whyNotConverted } from './from_xml/shown.mjs';
 import { say } from './texts.mjs';
@@ -43,6 +43,5 @@ function notJson({ why, line, column, excerpt }, whyNot, { name, index, fix }) {
         element('h3', { id: heading }, saidWith('notJson.heading', { name: theirs(name) })),
         element('p', {}, whyNot ?? say(`notJson.${why}`)), where,
         excerpt === undefined ? null : excerptShown(excerpt, () => Promise.resolve(new Uint8Array(0))),
-        element('details', {}, element('summary', {}, say('faults.fix')), ...paragraphs(fix.fixing),
-            element('p', { class: 'label' }, say('faults.origin')), ...paragraphs(fix.origin)));
+        fixShown(fix, false));
 }

@@ -5,7 +5,6 @@ import { markIn } from './copy_mark.mjs';
 import { repeatedNames } from '../../bindings/js/lib/repeated.mjs';
 import { whyNotJson } from './diagnosis.mjs';
 import { headIn } from './envelope.mjs';
-import { readExactly } from '../../bindings/js/lib/exact.mjs';
 import { sha256 } from './digest.mjs';
 import { excerptOf, Lines } from './excerpt.mjs';
 import { kindsOf } from './fault_kinds.mjs';
@@ -14,6 +13,7 @@ import { formOf, whyNot } from './from_xml/form.mjs';
 import { otherFile } from './other_file.mjs';
 import { foundPlaces } from './places.mjs';
 import { textOf } from '../../bindings/js/lib/scanner.mjs';
+import { areBounded, wordsOf } from './report_words.mjs';
 import { typesIn } from './types.mjs';
 
 /** The reason of a file that is not from before the election. */
@@ -164,10 +164,17 @@ export class Side {
         return this.checked.bytes;
     }
 
-    /** The report that the canonical form is the text of. */
-    report(erd, prefer, tell) {
-        this.keptReport ??= readExactly(this.canonical(erd, prefer, tell));
-        return this.keptReport;
+    /**
+     * The words of the report; it has to be accepted.
+     * @throws {RangeError} where they can be too long
+     */
+    words(erd, prefer, tell) {
+        const form = this.canonical(erd, prefer, tell);
+        tell({ stage: 'words', index: this.index });
+        if (form === null || !areBounded(form)) {
+            throw new RangeError('the words of the report can be too long');
+        }
+        return wordsOf(erd, this.bytes, prefer);
     }
 
     /** The sums of the file and of its canonical form. */

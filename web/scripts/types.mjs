@@ -2,22 +2,36 @@
 import { Scanner, textOf } from '../../bindings/js/lib/scanner.mjs';
 
 const NAME = new TextEncoder().encode('"ExternalIdentifier"');
-const MOST_TYPES = 100;
+/** The most types that are told of a file. */
+export const MOST_TYPES = 100;
 const LONGEST_LIST = 1 << 16;
 
 /**
  * The types of the identifiers in bytes that are JSON, in their order.
  * @param {Uint8Array} bytes
+ * @param {(identifier: object) => string} [typeOf] another name of the type of an identifier
+ * @param {number} [longest] the most bytes of a list of identifiers that is read
  * @returns {string[]}
  */
-export function typesIn(bytes) {
+export function typesIn(bytes, typeOf = ({ Type }) => Type, longest = LONGEST_LIST) {
     const types = new Set();
-    for (let at = placeOfName(bytes, 0); at >= 0 && types.size < MOST_TYPES;) {
-        const { value, end } = valueAt(bytes, at);
-        typesOf(value).forEach((type) => types.add(type));
-        at = placeOfName(bytes, end);
+    for (const { start, end } of listsIn(bytes)) {
+        const list = end - start > longest || start === end ? [] : JSON.parse(textOf(bytes, start, end));
+        [list].flat().filter((entry) => typeof entry?.Type === 'string').forEach((entry) => types.add(typeOf(entry)));
+        if (types.size >= MOST_TYPES) {
+            break;
+        }
     }
     return [...types].sort();
+}
+
+/** Where the lists of identifiers in bytes that are JSON begin and end. */
+export function* listsIn(bytes) {
+    for (let at = placeOfName(bytes, 0); at >= 0;) {
+        const place = valueAt(bytes, at);
+        yield place;
+        at = placeOfName(bytes, place.end);
+    }
 }
 
 // Where the next name ends; -1 if there is none.
@@ -30,23 +44,17 @@ function placeOfName(bytes, start) {
     return -1;
 }
 
-// The value of a member whose name ends here, and where it ends. The name may also be a text of its own; there is no value then.
+// Where the value of a member stands whose name ends here. The name may also be a text of its own; there is no value then.
 function valueAt(bytes, at) {
     const scanner = new Scanner(bytes);
     scanner.at = at;
     scanner.space();
     if (bytes[scanner.at] !== 0x3a) {
-        return { value: null, end: at };
+        return { start: at, end: at };
     }
     scanner.at++;
     scanner.space();
     const start = scanner.at;
     scanner.any(null);
-    const end = scanner.at;
-    return { value: end - start > LONGEST_LIST ? null : JSON.parse(textOf(bytes, start, end)), end };
-}
-
-function typesOf(identifiers) {
-    const entries = Array.isArray(identifiers) ? identifiers : [];
-    return entries.map((entry) => entry?.Type).filter((type) => typeof type === 'string');
+    return { start, end: scanner.at };
 }
