@@ -12,16 +12,12 @@ import glob
 import json
 import os
 import re
-import shutil
 import sys
-import tempfile
 
-from measuring import instructions
-
-sys.path.insert(0, os.path.join(os.path.dirname(os.path.abspath(__file__)), os.pardir, "reports"))
-import colliding  # noqa: E402
-import hostile_shapes  # noqa: E402
-from reports import CLASS, contest, election, identifier, report, selection  # noqa: E402
+from measuring import at_most, counted_cases, instructions
+import colliding
+import hostile_shapes
+from reports import CLASS, contest, election, identifier, report, selection
 
 MOST = 1.2
 # So many keys, for 128 and 256 places. That of a selection with a label takes more instructions by itself.
@@ -86,9 +82,8 @@ def counted(index, made, folder):
     return instructions(["./erd", "compare", path, copy] if index in ("compared names", NUMBERED) else ["./erd", "check", path])
 
 
-def tell(is_held, words):
-    print(("ok      " if is_held else "FAILED  ") + words, flush=True)
-    return is_held
+def over(ratio, case):
+    return "%s: %.2f times the instructions of others" % (case, ratio), at_most(MOST, ratio)
 
 
 def held(index, folder):
@@ -101,7 +96,7 @@ def held(index, folder):
         case = "%s that crowd an index under %s" % (index, name)
         if is_wanted(case):
             ratio = counted(index, report_of(colliding.crowded(count, salt, key, is_tagged=True)), folder) / least()
-            yield tell(ratio <= MOST, "%s: %.2f times the instructions of others" % (case, ratio))
+            yield over(ratio, case)
 
 
 def numbers_held(folder):
@@ -111,7 +106,7 @@ def numbers_held(folder):
         crowded = sorted(sorted(range(36 * PLACES), key=lambda number: colliding.place_of(number, PLACES))[:9 * PLACES])
         least = counted(NUMBERED, repeated_names(range(0, 36 * PLACES, 4)), folder)
         ratio = counted(NUMBERED, repeated_names(crowded), folder) / least
-        yield tell(ratio <= MOST, "%s: %.2f times the instructions of others" % (NUMBERED, ratio))
+        yield over(ratio, NUMBERED)
 
 
 def are_salted():
@@ -121,7 +116,7 @@ def are_salted():
         with open(path, encoding="utf-8") as file:
             kinds = re.findall(r"\b(?:IndexMap|IndexSet|HashMap|HashSet)<(?!Salted<)[^;]*", file.read())
         bare += ["%s in %s" % (kind.split("\n")[0], path) for kind in kinds]
-    return tell(not bare, "each index has a salt" + "".join(": " + each for each in bare))
+    return "each index has a salt", "; ".join(bare)
 
 
 def is_wanted(case):
@@ -145,7 +140,7 @@ def names_held(folder):
         left = write_ins(colliding.NAME.others(1))
         crowded = colliding.crowded(COUNT, colliding.salt_of(left), colliding.NAME, is_tagged=True)
         ratio = compared(left, write_ins(crowded), folder) / compared(left, write_ins(colliding.NAME.others(COUNT)), folder)
-        yield tell(ratio <= MOST, "%s: %.2f times the instructions of others" % (case, ratio))
+        yield over(ratio, case)
 
 
 def is_known_salt():
@@ -155,22 +150,15 @@ def is_known_salt():
     with open(SALTED, encoding="utf-8") as file:
         number = int(re.search(r"number\(&20u64\) == (\d+)", file.read()).group(1))
     wanted = colliding.salted(colliding.salt_of(small), [20])
-    return tell(number == wanted, "the salt of the small ballot: 20 has the number %d, and here %d" % (number, wanted))
+    return "the salt of the small ballot", "" if number == wanted else "20 has the number %d, and here %d" % (number, wanted)
 
 
-def main():
-    chosen = sys.argv[1:] or INDEXES
-    results = [is_known_salt(), are_salted()]
-    if shutil.which("valgrind"):
-        with tempfile.TemporaryDirectory() as folder:
-            results += [result for index in chosen for result in held(index, folder)]
-            results += numbers_held(folder)
-            results += names_held(folder)
-    else:
-        print("skipped the files that crowd an index: install the package valgrind")
-    print("%d passed, %d failed" % (sum(results), len(results) - sum(results)))
-    return 0 if all(results) else 1
+def cases(folder):
+    for index in sys.argv[1:] or INDEXES:
+        yield from held(index, folder)
+    yield from numbers_held(folder)
+    yield from names_held(folder)
 
 
 if __name__ == "__main__":
-    sys.exit(main())
+    sys.exit(counted_cases(cases, "the files that crowd an index", [is_known_salt(), are_salted()]))

@@ -20,9 +20,7 @@ import sys
 import tempfile
 
 from measuring import ROUND_TRIP, instructions, least_times
-
-sys.path.insert(0, os.path.join(os.path.dirname(os.path.abspath(__file__)), os.pardir, "reports"))
-import hostile_shapes  # noqa: E402
+import hostile_shapes
 
 PAGE = pathlib.Path("docs/MEASUREMENTS.md")
 COMMANDS = ("check", "canon", "compare")

@@ -10,12 +10,10 @@ Needs valgrind, `./erd`, and `crates/round_trip` built. One line a case.
 import os
 import pathlib
 import re
-import shutil
 import subprocess
 import sys
-import tempfile
 
-from measuring import ROUND_TRIP, instructions, original
+from measuring import ROUND_TRIP, at_most, counted_cases, instructions, original
 
 PAGE = pathlib.Path("docs/MEASUREMENTS.md")
 PLAIN, RELEASED = "./erd", "out/profiled/erd"
@@ -84,46 +82,34 @@ def write(unit, plain, released):
     PAGE.write_text(text, encoding="utf-8")
 
 
-def told(is_held, words):
-    print(("ok      " if is_held else "FAILED  ") + words)
-    return is_held
-
-
 def held(unit, plain, released):
-    """For each case, whether its count is held."""
+    """For each count, what is wrong with it."""
     text = PAGE.read_text(encoding="utf-8")
     for name, count in {UNIT: unit, **plain}.items():
         wanted = float(row_of(name, text)["ratio"])
-        yield told(count / unit <= MOST * wanted, "%s: %.2f million instructions, %.3f times those of a read and write; the page has %.3f"
-                   % (name, count / 1e6, count / unit, wanted))
+        yield ("%s: %.2f million instructions, %.3f times those of a read and write; the page has %.3f" % (name, count / 1e6, count / unit, wanted),
+               at_most(MOST, count / unit / wanted))
     for name, count in released.items():
         print("        %s, as released: %.2f million instructions, %.3f times those of a read and write, %.1f %% of those of ./erd"
               % (name, count / 1e6, count / unit, 100 * count / plain[name]))
     if released:
         part = sum(released.values()) / sum(plain.values())
-        yield told(part <= MOST_OF_PLAIN, "the program of a release takes %.1f %% of the instructions of ./erd" % (100 * part))
+        yield "the program of a release takes %.1f %% of the instructions of ./erd" % (100 * part), at_most(MOST_OF_PLAIN, part)
 
 
-def main():
-    if not shutil.which("valgrind"):
-        print("skipped the counts of instructions: install the package valgrind")
-        print("0 passed, 0 failed")
-        return 0
-    with tempfile.TemporaryDirectory() as folder:
-        unit = instructions([ROUND_TRIP], reports(folder)[0])
-        plain = counted(folder, PLAIN)
-        released = counted(folder, RELEASED) if os.path.exists(RELEASED) else {}
-        reader = original(folder) if "--original" in sys.argv else None
-        if reader:
-            print("the original's read and write: %.3f" % (instructions([reader], os.path.join(folder, "a")) / unit))
+def cases(folder):
+    unit = instructions([ROUND_TRIP], reports(folder)[0])
+    plain = counted(folder, PLAIN)
+    released = counted(folder, RELEASED) if os.path.exists(RELEASED) else {}
+    reader = original(folder) if "--original" in sys.argv else None
+    if reader:
+        print("the original's read and write: %.3f" % (instructions([reader], os.path.join(folder, "a")) / unit))
     if not released:
         print("skipped the program of a release: there is no %s; make profiled makes it" % RELEASED)
     if "--write" in sys.argv:
         write(unit, plain, released)
-    cases = list(held(unit, plain, released))
-    print("%d passed, %d failed" % (sum(cases), len(cases) - sum(cases)))
-    return 0 if all(cases) else 1
+    yield from held(unit, plain, released)
 
 
 if __name__ == "__main__":
-    sys.exit(main())
+    sys.exit(counted_cases(cases, "the counts of instructions"))

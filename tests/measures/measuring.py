@@ -1,5 +1,7 @@
-"""What the benchmarks share: processor time, peak memory and instructions of one run of a program, and the programs beside `erd`."""
+"""What the benchmarks share: processor time, peak memory and instructions of one run of a program, and the programs beside `erd`. Once
+it is imported, they find what other folders have."""
 import glob
+import itertools
 import os
 import re
 import shutil
@@ -7,6 +9,10 @@ import statistics
 import subprocess
 import sys
 import tempfile
+
+sys.path += [os.path.join(os.path.dirname(os.path.abspath(__file__)), os.pardir, folder) for folder in ("reports", "shared")]
+
+from cases import tell  # noqa: E402
 
 # Reads a value by serde_json and writes it again, without freeing it: proved, over the kit's serde_json, which `erd` has too.
 ROUND_TRIP = "crates/round_trip/out/round_trip"
@@ -67,6 +73,24 @@ def instructions(command, stdin=None, statuses=(0,)):
     if counted is None or ran.returncode not in statuses:
         sys.exit("bench: " + " ".join(command) + " under valgrind: status " + str(ran.returncode))
     return int(counted.group(1))
+
+
+# ---- cases
+
+
+def at_most(most, ratio):
+    """Why a case failed whose ratio may be so large; the empty text if it is no larger."""
+    return "" if ratio <= most else "at most %g times are held" % most
+
+
+def counted_cases(cases, what, others=()):
+    """Tells the cases that count instructions, which get a folder for their files, after others. Without valgrind it says what is
+    skipped. Returns the exit status of the script."""
+    if not shutil.which("valgrind"):
+        print("skipped %s: install the package valgrind" % what)
+        return tell(others)
+    with tempfile.TemporaryDirectory() as folder:
+        return tell(itertools.chain(others, cases(folder)))
 
 
 # ---- the original

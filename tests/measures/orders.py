@@ -7,15 +7,11 @@ through all elections for each of them takes the square of their number. Needs v
 """
 import json
 import os
-import shutil
 import sys
-import tempfile
 
-from measuring import instructions
-
-sys.path.insert(0, os.path.join(os.path.dirname(os.path.abspath(__file__)), os.pardir, "reports"))
-import hostile_shapes  # noqa: E402
-from reports import election, identifier, unit  # noqa: E402
+from measuring import at_most, counted_cases, instructions
+import hostile_shapes
+from reports import election, identifier, unit
 
 MOST = 1.2
 COUNT, LENGTH = 500, 300
@@ -48,52 +44,47 @@ def counted(command, made, folder):
     return instructions(["./erd", command] + paths[:1 + (command == "compare")])
 
 
-def is_held(command, folder):
+def by_names(command, folder):
+    """Values that differ in the names of their members."""
     ratio = counted(command, carrying(by_name), folder) / counted(command, carrying(by_first_entry), folder)
-    print("%s values that differ in the names of members: %s takes %.2f times the instructions of others"
-          % ("ok     " if ratio <= MOST else "FAILED ", command, ratio), flush=True)
-    return ratio <= MOST
+    return "values that differ in the names of members: %s takes %.2f times the instructions of others" % (command, ratio), at_most(MOST, ratio)
 
 
-def are_names_held(folder):
-    """Whether names that are long and the same in both reports take no longer if all differences are listed."""
+def long_names(folder):
+    """Names that are long and the same in both reports take no longer if all differences are listed."""
     paths = [os.path.join(folder, name) for name in ("left", "right")]
     for path, more in zip(paths, ({}, {"Carried": 1})):
         made = hostile_shapes.long_key(LONG)
         made["Election"][0]["Contest"][0]["ContestSelection"][0].update(more)
         with open(path, "w", encoding="utf-8") as file:
             json.dump(made, file)
-    return are_listed(paths, MOST_FOR_NAMES, "long names of selections, of which one differs")
+    return listed(paths, MOST_FOR_NAMES, "long names of selections, of which one differs")
 
 
-def are_elections_held(folder):
-    """Whether the list of differences finds each of many elections in little time."""
+def many_elections(folder):
+    """The list of differences finds each of many elections in little time."""
     paths = [os.path.join(folder, name) for name in ("left", "right")]
     for path, kind in zip(paths, ("general", "primary")):
         made = hostile_shapes.report_of([unit("u0", "U0")])
         made["Election"] = [election("u0", Type=kind, ExternalIdentifier=[identifier("E%d" % number)]) for number in range(MANY)]
         with open(path, "w", encoding="utf-8") as file:
             json.dump(made, file)
-    return are_listed(paths, MOST_FOR_ELECTIONS, "many elections that all differ")
+    return listed(paths, MOST_FOR_ELECTIONS, "many elections that all differ")
 
 
-def are_listed(paths, most, what):
-    """Whether all differences of two files are listed in so many times the instructions of a comparison."""
-    listed, compared = (instructions(["./erd", *words, *paths], statuses=(1,)) for words in (["differences", "--json"], ["compare"]))
-    print("%s %s: differences --json takes %.2f times the instructions of compare"
-          % ("ok     " if listed <= most * compared else "FAILED ", what, listed / compared), flush=True)
-    return listed <= most * compared
+def listed(paths, most, what):
+    """All differences of two files are listed in so many times the instructions of a comparison."""
+    listing, comparing = (instructions(["./erd", *words, *paths], statuses=(1,)) for words in (["differences", "--json"], ["compare"]))
+    ratio = listing / comparing
+    return "%s: differences --json takes %.2f times the instructions of compare" % (what, ratio), at_most(most, ratio)
 
 
-def main():
-    if not shutil.which("valgrind"):
-        print("skipped the values that differ in the names of members, long names and elections: install the package valgrind\n0 passed, 0 failed")
-        return 0
-    with tempfile.TemporaryDirectory() as folder:
-        results = [is_held(command, folder) for command in ("check", "compare")] + [are_names_held(folder), are_elections_held(folder)]
-    print("%d passed, %d failed" % (sum(results), len(results) - sum(results)))
-    return 0 if all(results) else 1
+def cases(folder):
+    for command in ("check", "compare"):
+        yield by_names(command, folder)
+    yield long_names(folder)
+    yield many_elections(folder)
 
 
 if __name__ == "__main__":
-    sys.exit(main())
+    sys.exit(counted_cases(cases, "the values that differ in the names of members, long names and elections"))

@@ -10,6 +10,7 @@ import sys
 import tempfile
 
 from agrees_with_reference import by_erd, by_reference
+from cases import tell
 from reports import identifier, report, unit
 
 TYPES = ['local-level', 'fips', 'check', 'compare', 'help', 'TYPE', 'two  words', ' -x', 'a\nb', 'a=b', '"\\/', '\u00e9', 'e\u0301',
@@ -57,16 +58,6 @@ def failures(kind, folder):
     return found
 
 
-def main():
-    failed = 0
-    with tempfile.TemporaryDirectory() as folder:
-        for kind in TYPES:
-            found = failures(kind, folder)
-            failed += bool(found)
-            print('%s  %d runs under %a%s' % ('FAILED' if found else 'ok    ', 2 * len(RUNS) - 2, kind, ''.join('; ' + text for text in found)))
-    print('%d passed, %d failed' % (len(TYPES) - failed, failed))
-    return 1 if failed else 0
-
-
 if __name__ == '__main__':
-    sys.exit(main())
+    with tempfile.TemporaryDirectory() as made:
+        sys.exit(tell(('%d runs under %a' % (2 * len(RUNS) - 2, kind), '; '.join(failures(kind, made))) for kind in TYPES))

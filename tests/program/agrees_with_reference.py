@@ -19,7 +19,7 @@ import sys
 import tempfile
 
 ROOT = pathlib.Path(__file__).resolve().parents[2]
-sys.path[:0] = [str(ROOT / 'reference'), str(ROOT / 'tests' / 'reports')]
+sys.path[:0] = [str(ROOT / folder) for folder in ('reference', 'tests/reports', 'tests/shared')]
 sys.dont_write_bytecode = True
 import erd_reference  # noqa: E402
 from reports import CLASS, OF_ELECTIONS as HELD, identifier, ids_in, keys_of, places, texts_in  # noqa: E402

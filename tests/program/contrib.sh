@@ -107,10 +107,10 @@ endless "$work/endless.json"
 bounded contrib/check-folder.sh "$work/endless.json" "$folder/a.json" "$folder/d.json"
 expect 'a list of faults without end' 1
 few_lines 'its beginning is shown'
+equal 'that it goes on is told' "$(grep -c '^  \.\. (erd check has the whole list)$' "$work/out")" 1
 equal 'the file after it' "$(tail -n 3 "$work/out")" "$(contrib/check-folder.sh "$folder/d.json")"
 
 # ---- repeated-names.py
-said 'the script is the module of the Python package' "$(cmp contrib/repeated-names.py bindings/python/src/erd/repeats.py 2>&1)"
 printf '{"FullName":"Bob Elm","FullName":"Ann Ash","a\\u001b":{"b":1,"b":2}}' > "$work/twice.json"
 run contrib/repeated-names.py "$folder/a.json"
 expect_text 'no repeated name' 0 ''

@@ -17,6 +17,7 @@ import sys
 import tempfile
 
 from agrees_with_reference import EXAMPLES, ROOT, by_erd, edited, types_in, with_elections
+from cases import tell
 from harmless_changes import CHANGES, EDITS, change_all, edit, exchange_members
 from meaning_by_search import says_the_same
 
@@ -142,24 +143,20 @@ def conformance_failures():
             yield path.parent.name, says_the_same(left, right) != (answer == SAME)
 
 
-def main():
-    count = int(sys.argv[1]) if len(sys.argv) > 1 else 2000
+def cases(count, seed):
     subprocess.run([ROOT / "conformance" / "make"], check=True)
-    dice = random.Random(int(sys.argv[2]) if len(sys.argv) > 2 else 1729)
+    for name, is_wrong in conformance_failures():
+        yield f"the other idea on conformance/{name}", "another answer" if is_wrong else ""
+    dice, compared, failed = random.Random(seed), 0, 0
     told = {kind: {"the same": 0, "not": 0, "with the right one refused": 0} for kind in PAIRS}
-    conformance = list(conformance_failures())
-    for name in [name for name, is_wrong in conformance if is_wrong]:
-        print(f"FAILED  the other idea on conformance/{name}")
-    compared = failed = 0
     with tempfile.TemporaryDirectory() as folder:
         for kind, left, right, prefer in pairs(dice, folder):
             answer = answer_of(left, right, prefer, dice, folder)
             if answer.startswith("left: "):
                 continue
             failure = failure_of(kind, left, right, answer)
-            if failure:
-                failed += 1
-                print(f"FAILED  {kind}, preference {prefer}: {answer!r} {failure}", json.dumps(left), json.dumps(right), sep="\n")
+            failed += bool(failure)
+            yield f"{kind}, preference {prefer}", f"{answer!r} {failure}\n{json.dumps(left)}\n{json.dumps(right)}" if failure else ""
             is_refused = answer.startswith("right: ")
             told[kind]["with the right one refused" if is_refused else "the same" if answer == SAME else "not"] += 1
             compared += not is_refused
@@ -167,11 +164,8 @@ def main():
                 break
     for kind, numbers in told.items():
         print(f"{kind}: " + ", ".join(f"{number} {name}" for name, number in numbers.items() if number))
-    total = len(conformance) + sum(sum(numbers.values()) for numbers in told.values())
-    failed += sum(is_wrong for _, is_wrong in conformance)
-    print(f"{total - failed} passed, {failed} failed")
-    return int(failed > 0)
 
 
 if __name__ == "__main__":
-    sys.exit(main())
+    numbers_given = [int(word) for word in sys.argv[1:]]
+    sys.exit(tell(cases(*numbers_given, *(2000, 1729)[len(numbers_given):]), is_brief=True))
