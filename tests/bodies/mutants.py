@@ -13,10 +13,12 @@ changes nothing, is counted apart. `make erd portable` comes before.
 import argparse
 import collections
 import concurrent.futures
+import functools
 import json
 import os
 import pathlib
 import random
+import re
 import shlex
 import subprocess
 import sys
@@ -37,23 +39,33 @@ PYTEST = (BOUNDED + 'ERD_TOP=$PWD ERD_LIBRARY=$PWD/out/portable/linux-x86_64/lib
 LINES = ("python3 tests/forms/command_lines.py --beside ./erd 'python -m erd' package,python env "
          'ERD_LIBRARY=$PWD/out/portable/linux-x86_64/liberd.so.0 PYTHONPATH=$PWD/bindings/python/src python3 -m erd')
 STEPS = [BOUNDED + 'python3 tests/prepare/steps.py']
+TABLES = 'python3 tests/pages/tables.py'
 MODULE = 'node tests/forms/javascript_module.mjs'
 COMMAND = 'cp -n out/portable/erd.wasm bindings/js; node tests/forms/javascript_command.mjs bindings/js'
-PARTS = [f'node tests/page/{name}.mjs' for name in ('parts', 'lines', 'words', 'shown', 'chosen', 'ballot_words', 'record_words', 'modules', 'judged')]
+PARTS = [f'node tests/page/{name}.mjs' for name in ('parts', 'lines', 'words', 'shown', 'chosen', 'ballot_words', 'record_words', 'converted',
+                                                    'result_told', 'ballots_shown', 'page_told', 'parts_told', 'modules', 'judged')]
+# Which parts of the page in a browser concern which of its modules, the last line all others. What a part notices of another module is not asked.
+BROWSED = {
+    'overview ballots printed': 'ballot* columns sheets text_changes alignment overview card search',
+    'many': 'many csv survey',
+    'prepared': 'prepar* copy_mark',
+    'record filed notices voter': 'record findings notices envelope seen* sums page_sum digest',
+    'flows results named keyboard': '*',
+}
 
 # The files, and the commands that try them, the cheapest first.
 AREAS = {
     'contrib/confined.sh': ['tests/program/confined.sh'],
-    'contrib/*.py': ['cp contrib/repeated-names.py bindings/python/src/erd/repeats.py; tests/program/contrib.sh'],
+    'contrib/*.py': ['tests/program/contrib.sh'],
     'contrib/*': ['tests/program/contrib.sh'],
-    'bindings/python/src/erd/prepare/*.py': [PYTEST + 'test_prepare.py', *STEPS],
-    'bindings/python/src/erd/from_xml/*.py': [PYTEST + 'test_from_xml.py'],
+    'bindings/python/src/erd/prepare/*.py': [TABLES, PYTEST + 'test_prepare.py', *STEPS],
+    'bindings/python/src/erd/from_xml/*.py': [TABLES, PYTEST + 'test_from_xml.py'],
     'bindings/python/src/erd/*.py': [*(PYTEST + f'test_{name}.py' for name in ('calls', 'ballots', 'prepare', 'resume', 'suite', 'commands', 'many')), LINES],
-    'bindings/js/lib/prepare/*.mjs': [MODULE, *STEPS],
+    'bindings/js/lib/prepare/*.mjs': [TABLES, MODULE, *STEPS],
     'bindings/js/lib/*.mjs': [MODULE, COMMAND, *PARTS, 'tests/forms/javascript_package.sh'],
-    'web/scripts/from_xml/*.mjs': ['node tests/page/shown.mjs', 'tests/page/page.sh xml_form xml_agree'],
-    'web/scripts/*.mjs': [*PARTS, 'tests/page/page.sh flows results ballots', 'tests/page/page.sh notices lines growing voter record filed prepared '
-                          'many named spanish keyboard hostile bounds accessibility'],
+    'web/scripts/from_xml/*.mjs': [TABLES, *(f'node tests/page/{name}.mjs' for name in ('converted', 'shown', 'parts_told')),
+                                   'tests/page/page.sh xml_form xml_agree'],
+    **{f'web/scripts/{name}.mjs': [*PARTS, f'tests/page/page.sh {parts}'] for parts, names in BROWSED.items() for name in names.split()},
 }
 # A command that takes so many times as long as without a mistake, and so many seconds more, has noticed it.
 TIMES, SECONDS_MORE = 5, 60
@@ -68,7 +80,25 @@ def files_of(names):
         for path in sorted(TOP.glob(pattern)):
             name = str(path.relative_to(TOP))
             if (not names or name in names) and reader_of(name) is not None:
-                found.setdefault(name, commands)
+                found.setdefault(name, [command for command in commands if may_notice(command, name)])
+    return found
+
+
+def may_notice(command, name):
+    """Whether a command can notice a mistake in a file: a test in Node alone can if it has the module."""
+    test = re.fullmatch(r'node (tests/page/\w+\.mjs)', command)
+    return test is None or TOP / name in modules_of(TOP / test[1])
+
+
+@functools.lru_cache(maxsize=None)
+def modules_of(path):
+    """A module, and those that it imports, with those that they import."""
+    found, waiting = set(), [path]
+    while waiting:
+        one = waiting.pop()
+        if one not in found and one.suffix in ('.mjs', '.js'):
+            found.add(one)
+            waiting += [(one.parent / other).resolve() for other in re.findall(r"(?:from |import |import\()'(\.[^']+)'", one.read_text(encoding='utf-8'))]
     return found
 
 

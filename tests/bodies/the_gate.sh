@@ -1,7 +1,8 @@
 #!/usr/bin/env bash
 # Tries parts of the gate with an `rt` that only says what a real one says. tests/prove.sh runs once more where the prover lost a file,
 # and where anything else failed it doesn't. Another build of the kit with the same logic is told, and another logic is a failure.
-# tests/gate_parts.sh runs small parts. packaging/room.sh is told what is free. One line a case.
+# tests/gate_parts.sh runs small parts. packaging/room.sh is told what is free, and packaging/needed.sh which tools are wanted. One line a
+# case.
 set -u
 . "$(dirname "$0")/../shared/start.sh" || exit 1
 . tests/shared/commands.sh
@@ -64,6 +65,18 @@ room 'too little memory' 7199 5700 'notice: memory, for the largest proof: 7.1 G
 room 'too little disk' 7200 5699 'notice: disk, for the proofs that are kept: 5.6 GB are free, and 5.7 GB are needed'
 said 'enough of both' "$(packaging/room.sh 7200 5700)"
 
+# Where a tool is missing nothing is made, and it is said where the tool comes from.
+for row in "nosuch in Debian's package nosuch" "dpkg-nosuch in Debian's package dpkg-nosuch"; do
+    run packaging/needed.sh sh "${row%% *}" cat
+    expect "a tool that is missing, ${row%% *}" 1
+    equal "it is named, ${row%% *}" "$(cat "$work/err")" "make: there is no ${row%% *}, which is ${row#* }"
+done
+run env PATH="$work/none" "$BASH" packaging/needed.sh cmp
+equal 'the package that has a tool of another name' "$(cat "$work/err")" "make: there is no cmp, which is in Debian's package diffutils"
+run packaging/needed.sh sh cat
+expect 'tools that are there' 0
+said 'nothing is said of these' "$(cat "$work/out" "$work/err")"
+
 # A gate of small parts, in a folder of its own: the proof ends when the file `go` is there, a part is lost when it ends its lane, one
 # gives no counts, and one waits for a part that is lost.
 mkdir -p "$work/gate/tests/shared"
@@ -87,7 +100,7 @@ stop() { return 1; }
 first './good' './bad'
 proof './prove'
 lane './mute' 'ended: ./bad' './last'
-lane 'stop: here' './never'
+longest 'stop: here' './never'
 await
 sum_up
 END
