@@ -107,7 +107,7 @@ lane 'proved: erd_canon' 'tests/library/c_library.sh' 'python3 tests/library/lis
 
 # The packages of both languages take the forms that are made first, and stand beside the programs for other machines. A release makes
 # the packages too, so it comes when they are done.
-lane 'program:' 'library:' 'tests/forms/other_machines.sh' 'tests/forms/other_programs.sh' 'ended: tests/fuzz/fuzz.sh' \
+longest 'program:' 'library:' 'tests/forms/other_machines.sh' 'tests/forms/other_programs.sh' 'ended: tests/fuzz/fuzz.sh' \
     'tests/forms/program_packages.sh' 'tests/forms/release_files.sh' 'tests/forms/installed_alone.sh'
 lane 'ended: tests/forms/other_machines.sh' 'ended: tests/library/c_library.sh' 'tests/forms/language_examples.sh' \
     'tests/forms/javascript_package.sh' 'tests/forms/python_package.sh' 'python3 tests/prepare/steps.py' 'tests/fuzz/fuzz.sh'
@@ -119,9 +119,9 @@ lane 'ended: tests/forms/other_machines.sh' 'tests/page/page.sh' 'ended: tests/f
 lane 'program:' 'tests/program/command.sh' 'tests/pages/manual.sh' 'python3 tests/pages/examples.py' 'tests/program/contrib.sh' \
     'python3 tests/program/agrees_with_reference.py 500' 'python3 tests/program/same_meaning.py' \
     'python3 tests/program/agrees_on_preferences.py' 'conformance/run ./erd' 'tests/program/limits.sh' 'tests/program/confined.sh' \
-    'tests/forms/make_install.sh' 'python3 tests/measures/crowding.py' 'python3 tests/measures/orders.py' 'ended: tests/library/c_library.sh' \
-    'tests/forms/profiled_program.sh' 'python3 tests/measures/instructions.py' 'tests/forms/same_bytes.sh' 'tests:' \
-    'tests/program/refusals.sh'
+    'tests/forms/make_install.sh' 'python3 tests/measures/crowding.py' 'python3 tests/measures/orders.py' \
+    'python3 tests/measures/hostile_ballots.py' 'ended: tests/library/c_library.sh' 'tests/forms/profiled_program.sh' \
+    'python3 tests/measures/instructions.py' 'tests/forms/same_bytes.sh' 'tests:' 'tests/program/refusals.sh'
 
 await
 # With the proofs that an earlier run has kept, the first part takes some seconds, and CONTRIBUTING.md says what it takes from nothing.

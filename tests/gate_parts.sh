@@ -59,6 +59,11 @@ lane() {
     gives_way=5 first "$@"
 }
 
+# longest STEP ..: the same for the lane that takes longest, to which the others give way, so that it doesn't end alone
+longest() {
+    gives_way=3 first "$@"
+}
+
 # first STEP ..: the same for parts that give way to none
 first() {
     local step steps=()

@@ -12,9 +12,8 @@ import re
 import subprocess
 import sys
 
-ROOT = pathlib.Path(__file__).resolve().parents[2]
-sys.path.append(str(ROOT / 'tests' / 'shared'))
-from cases import differing_lines, tell_cases  # noqa: E402
+from repository import ROOT
+from cases import differing_lines, tell_cases
 
 PAGE = ROOT / 'docs' / 'DEFINITIONS.md'
 CRATES = ['erd_tables', 'erd_index', 'erd_check', 'erd_prepare', 'erd_text', 'erd_meaning', 'erd_normal', 'erd_shown', 'erd_compare', 'erd_canon', 'erd_program', 'erd_c']
@@ -44,7 +43,7 @@ PROMISES = [
     ('Pieces of lists (`check_data_piece`, `check_text_piece` and their neighbours)', [
         'erd_canon/Pieces.IsPieceText', 'erd_canon/Pieces.IsCheckPiece', 'erd_canon/Pieces.IsFormPiece', 'erd_canon/Pieces.IsComparePiece',
         'erd_canon/Pieces.IsListPiece', 'erd_canon/Pieces.IsCheckLines', 'erd_canon/Pieces.IsFormLines', 'erd_canon/Pieces.IsCompareLines',
-        'erd_canon/Pieces.IsListLines', 'erd_canon/ValuedAnswers.IsValuesPiece']),
+        'erd_canon/Pieces.IsListLines', 'erd_canon/ValuedAnswers.IsValuesPiece', 'erd_canon/WordAnswers.IsWordsPiece']),
     ('The command line as data (`command_line_data`)', ['erd_canon/LineAnswers.IsLineData']),
     ('What the C library tells', ['erd_c/Told.IsCall', 'erd_c/Told.IsWrong', 'erd_c/Told.HasCanonicalText', 'erd_canon/Run.IsChecked',
                                   'erd_canon/Run.IsCompared', 'erd_c/Lines.IsLineCall', 'erd_c/Told.IsPieceCall']),
@@ -55,8 +54,8 @@ PROMISES = [
         'erd_normal/SameForms.SayingAndMeaningAgree', 'erd_canon/ByteLaws.OneFormForOneMeaning', 'erd_canon/ByteLaws.IsItsOwnForm',
         'erd_canon/ByteLaws.SameFormWhenRearranged']),
     ('What `erd_tell_prepared` tells', ['erd_c/Prepared.IsPrepareCall']),
-    ('What is shown of objects and ballots (`members_tell`, `rows_of`)', [
-        'erd_shown/Laws.MembersTell', 'erd_shown/Laws.ObjectsTell', 'erd_shown/Rows.AreRows']),
+    ('What is shown of objects and ballots (`members_tell`, `rows_of`, `meanings_tell`)', [
+        'erd_shown/Laws.MembersTell', 'erd_shown/Laws.ObjectsTell', 'erd_shown/Rows.AreRows', 'erd_shown/BallotLaws.MeaningsTell']),
 ]
 
 USE = re.compile(r'^\s*(?:unfoldable )?(?:pub )?use Rattle\.(\w+)\.specs\.([\w.]+?)(?:\.\{([^}]*)\}| as (\w+))$')

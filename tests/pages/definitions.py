@@ -16,14 +16,12 @@ The names that the table of words in docs/TRUST.md quotes stand in the sources, 
 thing alone stands in the names of the crates that know this thing, and of no other (`KNOWING`).
 """
 
-import pathlib
 import re
 import sys
 
-ROOT = pathlib.Path(__file__).resolve().parents[2]
-sys.path.append(str(ROOT / 'tests' / 'shared'))
-from cases import differing_lines, tell_cases  # noqa: E402
-from closures import under_promises, used_elsewhere  # noqa: E402
+from repository import ROOT
+from cases import differing_lines, tell_cases
+from closures import under_promises, used_elsewhere
 
 PAGE = ROOT / 'docs' / 'DEFINITIONS.md'
 CRATES = ['erd_tables', 'erd_index', 'erd_check', 'erd_prepare', 'erd_text', 'erd_meaning', 'erd_normal', 'erd_shown', 'erd_compare', 'erd_canon', 'erd_program', 'erd_c']
@@ -42,9 +40,9 @@ KNOWING = {
 SECOND = {('position', 'erd_check'), ('part', 'erd_index'), ('part', 'erd_prepare'), ('part', 'erd_canon'), ('part', 'erd_program')}
 
 # The words of a sentence that stands on the page as it is.
-MOST_WORDS = 12
+MOST_WORDS = 11
 # A longer sentence than the second is cut at a comma behind so many words.
-LEAST_AT_COMMA, MOST_AT_COMMA = 5, 14
+LEAST_AT_COMMA, MOST_AT_COMMA = 5, 12
 
 # Where the definitions of a file come from, if their comments do not say: the file, or one of its definitions.
 PROFILE = 'profile'

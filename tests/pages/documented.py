@@ -1,20 +1,18 @@
 """Holds the examples in doc comments against the crate `uses`: each public call of the library has one, and its lines stand
 one after another in a source of `uses`, where they are run. Only white space may differ, and `assert_eq!` of two values may stand in
 `uses` as `assert!` that they are equal: the first one prints both, which costs more to prove than the rest of an example. What an
-example only asserts may stand in a condition of `uses`, joined by `&&`: that costs a third of an assertion. One line a case that fails,
-and at the end the counts.
+example only asserts may stand in a condition of `uses`, joined by `&&`, which costs a third of an assertion, and what it asserts of `call()?`
+as a condition on `call() == Ok(..)`, which costs a tenth. One line a case that fails, and at the end the counts.
 
 A public call is a function or a method of a type or trait that the root of a crate names. Laws take no arguments and run
 nothing, and a `Log` is seen by contracts alone, so these have no example.
 """
 
-import pathlib
 import re
 import sys
 
-ROOT = pathlib.Path(__file__).resolve().parents[2]
-sys.path.append(str(ROOT / 'tests' / 'shared'))
-from cases import tell_cases  # noqa: E402
+from repository import ROOT
+from cases import tell_cases
 
 CRATES = ['erd_tables', 'erd_index', 'erd_check', 'erd_text', 'erd_meaning', 'erd_normal', 'erd_shown', 'erd_compare', 'erd_canon']
 CALL = re.compile(r'^( *)(pub )?fn (\w+)(?:<[^(]*>)?\(([^)]*)', re.M)
@@ -45,8 +43,16 @@ def is_in(example, source):
 
 
 def is_joined(condition, source):
-    """Whether a condition stands whole in a source: what is before it and behind it ends a condition too."""
-    return re.search(r'(?:[{;]|&&)' + re.escape(condition) + r'(?:\}|&&|\);)', source) is not None
+    """Whether a condition stands whole in a source, as it is or without `?`: what is before it and behind it ends a condition too."""
+    return any(re.search(r'(?:[{;]|&&|Ok\()' + re.escape(it) + r'(?:\}|&&|,?\)[;}])', source) for it in (condition, on_result(condition)))
+
+
+def on_result(condition):
+    """What a condition asks of `call()?`, asked of the call's result: of a call that answers the same, with no early return to prove."""
+    call, mark, wanted = condition.partition('?==')
+    if not mark and condition.endswith('?'):
+        call, wanted = condition.strip('!?'), 'false' if condition.startswith('!') else 'true'
+    return f'{call}==Ok({wanted})'
 
 
 def names_at_root(crate):

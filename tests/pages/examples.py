@@ -20,11 +20,11 @@ import subprocess
 import sys
 import tempfile
 
-ROOT = pathlib.Path(__file__).resolve().parents[2]
-sys.path[:0] = [str(ROOT / 'tests' / 'shared'), str(ROOT / 'tests' / 'reports')]
-import texts_of_data  # noqa: E402
-from cases import tell_cases  # noqa: E402
-from exports import rearranged  # noqa: E402
+from repository import ROOT
+import texts_of_data
+from listed import worded
+from cases import tell_cases
+from exports import rearranged
 
 SESSIONS = ('README.md', 'docs/GUIDE.md', 'docs/FIXES.md')
 BASE = 'examples/county.vendor-a.json'
@@ -167,6 +167,27 @@ def values_listed(folder, answer):
     return listed if 'values' in answer else [entry['values']['left'] for entry in listed if entry['how'] == 'only left']
 
 
+def words_listed(answer):
+    """The entries of the same objects that the reference program lists for the small ballot, of whose contest only the write-in is left."""
+    report = json.loads(read('examples/small-ballot.json'))
+    contest = report['Election'][0]['Contest'][0]
+    contest['ContestSelection'] = [one for one in contest['ContestSelection'] if one.get('IsWriteIn')]
+    left = {one['@id'] for one in contest['ContestSelection']}
+    for ordered in contents_of(report['Election'][0]['BallotStyle']):
+        if ordered.get('ContestId') == contest['@id'] and 'OrderedContestSelectionIds' in ordered:
+            ordered['OrderedContestSelectionIds'] = [one for one in ordered['OrderedContestSelectionIds'] if one in left]
+    keys = [(entry['part'], entry['key']) for entry in answer]
+    return [entry for entry in worded(json.dumps(report).encode(), None) if (entry['part'], entry['key']) in keys]
+
+
+def contents_of(holders):
+    """What is below these styles and headers, each before what is below it."""
+    for holder in holders:
+        for ordered in holder.get('OrderedContent', []):
+            yield ordered
+            yield from contents_of([ordered])
+
+
 def line_of_data(folder, answer):
     """What the program writes for reports that are made for the answer."""
     base = json.loads(read('examples/small-ballot.json' if 'key' in answer else BASE))
@@ -224,6 +245,10 @@ def examples_of_data(folder):
                 continue
             if isinstance(answer, list) and 'how' in answer[0]:
                 yield f'{page}: {text}', *lines_of_differences(folder, answer)
+                continue
+            if 'part' in first and 'words' in first:
+                entries = answer if isinstance(answer, list) else [answer]
+                yield f'{page}: {text}', entries, words_listed(entries)
                 continue
             if {'class', 'values'} & set(first):
                 yield f'{page}: {text}', [answer], values_listed(folder, answer)

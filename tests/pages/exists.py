@@ -2,15 +2,12 @@
 exists, tests/pages/exists.txt, and what tables.py writes against where it comes from. One line a file that fails, and at the end the
 counts. The members of a class have a table of their own, that of docs/PROFILE.md, against which facts_and_links.py holds
 the definitions."""
-import pathlib
 import re
 import sys
 
-ROOT = pathlib.Path(__file__).resolve().parents[2]
-sys.dont_write_bytecode = True
-sys.path[:0] = [str(ROOT / 'tests' / folder) for folder in ('pages', 'shared')]
-import tables  # noqa: E402
-from cases import tell_cases  # noqa: E402
+from repository import ROOT
+import tables
+from cases import tell_cases
 
 
 def blocks():

@@ -1,7 +1,8 @@
 """Holds what several pages and texts say against the one place that has it: the member table of docs/PROFILE.md against the
 rows of `specs/`, what a voter sees against the member table, the limit on bytes against the constant of the code, exit statuses
 against their definition, what the table of reasons names against the code, the calls that take a preference against the code, links
-against the pages, and lists of pictures and scripts against the folders. One line a case that fails, and at the end the counts.
+against the pages, lists of pictures and scripts against the folders, and what a person acts on against words by hand, those of
+tests/pages/meanings.txt. One line a case that fails, and at the end the counts.
 """
 
 import os
@@ -11,13 +12,11 @@ import shutil
 import subprocess
 import sys
 
-ROOT = pathlib.Path(__file__).resolve().parents[2]
-sys.dont_write_bytecode = True
-sys.path[:0] = [str(ROOT / 'tests' / 'reports'), str(ROOT / 'tests' / 'shared'), str(ROOT / 'web')]
-import documented  # noqa: E402
-import seen  # noqa: E402
-from cases import tell_cases  # noqa: E402
-from member_table import table_of_page  # noqa: E402
+from repository import ROOT
+import documented
+import seen
+from cases import tell_cases
+from member_table import table_of_page
 
 SPECS = ROOT / 'crates' / 'erd_tables' / 'specs'
 
@@ -231,12 +230,25 @@ def compare_pictures():
 
 
 def compare_lists():
-    """Each script of the page and of the tests says at its top what it has, as CONTRIBUTING.md promises, and each folder of the tests is there."""
+    """Each script of the page and of the tests says at its top what it has, as CONTRIBUTING.md promises, and each folder of the tests is there.
+    The script that lists repeated names stands alone, and is a module of the package for Python too."""
     scripts = [*ROOT.glob('web/scripts/*.mjs'), *(path for path in ROOT.glob('tests/*/*.*') if path.suffix in ('.sh', '.py', '.mjs'))]
     silent = [str(path.relative_to(ROOT)) for path in sorted(scripts) if not re.match(r'(#!.*\n)?(//|# |/\*|"""|r""")', path.read_text(encoding='utf-8'))]
     yield 'the scripts that do not say what they have', [], silent
     folders = {name for row in re.findall(r'^\| (`\w+/`.*?) \|', read('CONTRIBUTING.md'), re.M) for name in re.findall(r'`(\w+)/`', row)}
     yield 'the folders of the tests', sorted(path.name for path in (ROOT / 'tests').iterdir() if path.is_dir() and path.name != '__pycache__'), sorted(folders)
+    yield 'the script for repeated names', True, read('contrib/repeated-names.py') == read('bindings/python/src/erd/repeats.py')
+
+
+# ---- what a person acts on
+
+
+def compare_meanings():
+    """Each page has the words that tests/pages/meanings.txt asks of it."""
+    for block in re.split(r'^\[', read('tests/pages/meanings.txt'), flags=re.M)[1:]:
+        page, *wanted = block.strip().split('\n')
+        text = ' '.join(read(page.rstrip(']')).split())
+        yield f'what {page.rstrip("]")} has to tell', [], [words for words in wanted if not re.search(words, text)]
 
 
 # ---- lengths
@@ -303,4 +315,4 @@ def compare_kit():
 
 if __name__ == '__main__':
     sys.exit(tell_cases([*compare_tables(), *compare_seen(), *compare_limits(), *compare_reasons(), *compare_statuses(), *compare_preferring(),
-                         *compare_links(), *compare_pictures(), *compare_lengths(), *compare_words(), *compare_lists(), *compare_kit()]))
+                         *compare_links(), *compare_pictures(), *compare_lengths(), *compare_words(), *compare_lists(), *compare_meanings(), *compare_kit()]))

@@ -1,13 +1,10 @@
 """Holds the table of parts in CONTRIBUTING.md against tests/gate.sh, its seconds against those of the last run of the gate here, which
 leaves them in out/gate-costs, and the minutes that the README tells against those of the page. One line a case that fails, and at the end the counts. With --write the seconds of that run are written into the table."""
-import pathlib
 import re
 import sys
 
-ROOT = pathlib.Path(__file__).resolve().parents[2]
-sys.dont_write_bytecode = True
-sys.path.append(str(ROOT / 'tests' / 'shared'))
-from cases import tell_cases  # noqa: E402
+from repository import ROOT
+from cases import tell_cases
 
 PAGE = ROOT / 'CONTRIBUTING.md'
 HEAD = '| Part | Processor seconds |'
@@ -71,7 +68,7 @@ def minutes():
 def parts():
     """The commands of the gate's lanes."""
     text = (ROOT / 'tests' / 'gate.sh').read_text(encoding='utf-8')
-    found = {plain(command) for line in re.findall(r"^(?:lane|first|proof| {4}).*'.*$", text, re.M)
+    found = {plain(command) for line in re.findall(r"^(?:lane|longest|first|proof| {4}).*'.*$", text, re.M)
              for command in re.findall(r"'([^']*)'", line) if '/' in command and ': ' not in command and 'lists/' not in command}
     return found | {EDITS}
 

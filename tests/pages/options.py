@@ -1,11 +1,10 @@
 """The options of the program in the manual page and in the completions: lines that tables.py writes from the help of the program."""
-import pathlib
 import re
 
-ROOT = pathlib.Path(__file__).resolve().parents[2]
+from repository import ROOT
 COMMANDS = ROOT / 'crates' / 'erd_canon' / 'src' / 'commands'
 # The usual texts of a value, by its name.
-USUAL = {'TYPE': ['fips', 'local-level', 'national-level', 'ocd-id', 'other', 'state-level'], 'STEPS': ['removed', 'filled-in', 'visible']}
+USUAL = {'TYPE': ['fips', 'local-level', 'national-level', 'ocd-id', 'other', 'state-level'], 'STEPS': ['removed', 'filled-in', 'visible', 'view']}
 
 
 def help_texts():

@@ -4,15 +4,12 @@ of it, and the files that a page names are there. Each session and each JSON exa
 line a case that fails, and at the end the counts.
 """
 
-import pathlib
 import re
 import sys
 
-ROOT = pathlib.Path(__file__).resolve().parents[2]
-sys.dont_write_bytecode = True
-sys.path.append(str(ROOT / 'tests' / 'shared'))
-import examples  # noqa: E402
-from cases import tell_cases  # noqa: E402
+from repository import ROOT
+import examples
+from cases import tell_cases
 
 # The pages with a quoted block, the beginning of the block, and the files of which one has it. White space may differ.
 QUOTES = (

@@ -10,7 +10,8 @@ import sys
 import tempfile
 import urllib.parse
 
-ROOT = pathlib.Path(__file__).resolve().parents[2]
+from repository import ROOT
+from cases import tell
 SITE = ROOT / 'out' / 'site'
 WIDTH = 375
 # What people ask, and the page that the search has to lead to first.
@@ -20,8 +21,6 @@ ASKED = {
     'what is in a release': 'docs/INSTALL.html', 'what does a release hold': 'docs/INSTALL.html', 'spanish': 'docs/GUIDE.html', 'release': 'docs/INSTALL.html', 'what is proved': 'index.html', 'untrusted': 'docs/GUIDE.html',
     'byte order mark': 'docs/FIXES.html',
 }
-sys.path.insert(0, str(ROOT / 'tests' / 'page'))
-sys.dont_write_bytecode = True
 
 
 class Links(html.parser.HTMLParser):
@@ -95,23 +94,19 @@ def in_browser(pages):
             browser.close()
 
 
+def cases():
+    ran = subprocess.run([sys.executable, ROOT / 'packaging' / 'site.py'], capture_output=True, text=True)
+    yield 'the site is made', '' if ran.returncode == 0 else ran.stderr
+    if ran.returncode == 0:
+        pages = sorted(path for path in SITE.rglob('*.html') if path.name != 'erd.html')
+        yield from (*links_that_fail(pages), *parts_that_lack(pages), *in_browser(pages))
+
+
 def main():
     if not shutil.which('pandoc'):
         print('skipped the site: not installed: pandoc\n0 passed, 0 failed')
         return 0
-    ran = subprocess.run([sys.executable, ROOT / 'packaging' / 'site.py'], capture_output=True, text=True)
-    passed = failed = 0
-    cases = [('the site is made', '' if ran.returncode == 0 else ran.stderr)]
-    if ran.returncode == 0:
-        pages = sorted(path for path in SITE.rglob('*.html') if path.name != 'erd.html')
-        cases += [*links_that_fail(pages), *parts_that_lack(pages), *in_browser(pages)]
-    for name, why in cases:
-        passed += not why
-        failed += bool(why)
-        if why:
-            print(f'FAILED  {name}: {why}')
-    print(f'{passed} passed, {failed} failed')
-    return int(failed > 0)
+    return tell(cases(), is_brief=True)
 
 
 if __name__ == '__main__':

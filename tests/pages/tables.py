@@ -1,20 +1,17 @@
 """Holds the tables of the packages against docs/PROFILE.md: the words of the reasons, and what drives the converter from XML (the
 other half of it is bindings/xml_classes.txt); what to do about a fault that is left (bindings/remedies.txt); and the options of the manual page and of the completions against the help of the program
 (options.py). With `--write` they are written anew. Each stands in its file between a line that begins it and one that ends it.
-It holds the members that `erd ballots` compares (BallotWords.antt) against the table of what a voter sees.
+It holds the members that ballots print (BallotWords.antt) against the table of what a voter sees.
 """
-import pathlib
 import re
 import sys
 
-ROOT = pathlib.Path(__file__).resolve().parents[2]
-sys.dont_write_bytecode = True
-sys.path[:0] = [str(ROOT / 'tests' / folder) for folder in ('pages', 'reports', 'shared')] + [str(ROOT / 'web')]
-import options  # noqa: E402
-import seen  # noqa: E402
-from cases import tell_cases  # noqa: E402
-from facts_and_links import text_of_reasons  # noqa: E402
-from member_table import families_of_page, table_of_page  # noqa: E402
+from repository import ROOT
+import options
+import seen
+from cases import tell_cases
+from facts_and_links import text_of_reasons
+from member_table import families_of_page, table_of_page
 
 MOST_WORDS = 110
 # Where `rt fmt` breaks a line.
@@ -175,14 +172,15 @@ def printed_members():
 
 
 def members_on_ballots(classes):
-    """The same by the table of what a voter sees. The selections of a contest are told by their names."""
+    """The same by the table of what a voter sees. What holds objects is told object by object."""
     words = seen.read(ROOT / 'docs' / 'PROFILE.md')
-    return {name: {it for it, word in words[name].items() if word in ('seen', 'in doubt')} - {'ContestSelection'} for name in classes}
+    holding = {'ContestSelection', 'Candidate', 'Contest', 'BallotStyle'}
+    return {name: {it for it, word in words[name].items() if word in ('seen', 'in doubt')} - holding for name in classes}
 
 
 def cases():
     printed = printed_members()
-    yield 'erd ballots compares the members that a voter sees or may see', members_on_ballots(printed), printed
+    yield 'ballots print the members that a voter sees or may see', members_on_ballots(printed), printed
     yield 'bindings/remedies.txt has the steps of docs/FIXES.md for each reason', steps_of_page(), {number: steps for number, (steps, _) in remedies().items()}
     for path, first, last, lines in TABLES:
         _, table, _ = parts((ROOT / path).read_text(encoding='utf-8'), first, last)

@@ -1,4 +1,4 @@
-"""Tells the cases of a script, as the gate reads them. A case is its name, what is wanted and what is found."""
+"""Tells the cases of a script, as the gate reads them, and counts them."""
 
 
 def there(wanted, found):
@@ -12,15 +12,19 @@ def differing_lines(wanted, found):
     return f'{len(here)} lines more, {here[:5]}, and {len(there_alone)} less, {there_alone[:5]}'
 
 
-def tell_cases(cases, why=there):
-    """Prints a line for each case that failed, which `why` gives of what is wanted and found, and the counts at the end. Returns the
-    exit status of the script."""
+def tell(cases, is_brief=False):
+    """Prints a line for each case as it is done, of its name and of what is wrong with it, which is empty where it passed; a brief
+    script prints those that failed alone. At the end it prints the counts. Returns the exit status of the script."""
     passed = failed = 0
-    for name, wanted, found in cases:
-        if wanted == found:
-            passed += 1
-        else:
-            failed += 1
-            print(f'FAILED  {name}: {why(wanted, found)}')
+    for name, why in cases:
+        passed += not why
+        failed += bool(why)
+        if why or not is_brief:
+            print(f'FAILED  {name}: {why}' if why else f'ok      {name}', flush=True)
     print(f'{passed} passed, {failed} failed')
     return int(failed > 0)
+
+
+def tell_cases(cases, why=there):
+    """Tells briefly the cases of which each is a name, what is wanted and what is found, where `why` gives what is wrong of these."""
+    return tell(((name, '' if wanted == found else why(wanted, found)) for name, wanted, found in cases), is_brief=True)
