@@ -1,5 +1,5 @@
 #!/usr/bin/env bash
-# Every check of the repository. At the end stand what failed and what was skipped, and what each part cost; the last line
+# Every check of the repository. At the end stand what each part cost, and what failed and what was skipped; the last line
 # is 'N passed, M failed' for all of them together. CONTRIBUTING.md says how they run.
 set -u
 cd "$(dirname "$0")/.." || exit 1

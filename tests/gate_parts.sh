@@ -177,14 +177,12 @@ how_to_get() {
     echo "    deb http://deb.debian.org/debian-security bookworm-security main"
 }
 
-# sum_up: what failed and was skipped, what each part cost, and the counts of all
+# sum_up: what each part cost, what failed and was skipped, and the counts of all
 sum_up() {
     local folder
     for folder in "$results"/[0-9]*/; do
         add "$folder"
     done
-    printf '%s' "${told:+$'What failed, and what was skipped:\n'}" "$told"
-    ! grep -q ': skipped ' <<< "$told" || how_to_get
     echo 'What each part cost:'
     echo ' processor      time  part'
     for folder in "$results"/[0-9]*/; do
@@ -195,6 +193,9 @@ sum_up() {
     keep
     cp "$results/costs" out/gate-costs
     cost "$(cat "$results"/[0-9]*/processor 2> /dev/null | spent -)" $((SECONDS - began)) 'all parts'
+    # Near the end of the log, since of a long one only the end may be shown.
+    printf '%s' "${told:+$'What failed, and what was skipped:\n'}" "$told"
+    ! grep -q ': skipped ' <<< "$told" || how_to_get
     rm -f out/gate-counts
     [ -z "$tree" ] || [ "$tree" != "$(committed)" ] || echo "$tree $passed passed, $failed failed" > out/gate-counts
     counts

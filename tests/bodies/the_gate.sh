@@ -110,7 +110,7 @@ tell=$work/gate/said
 equal 'a gate of small parts: the counts' "$status $(tail -n 1 "$tell")" '1 4 passed, 3 failed'
 equal 'a failure is told before the proof ends' "$(grep -n -m 1 'FAILED  three' "$tell" | cut -d : -f 2-) $(grep -c '^2 passed' "$tell")" './bad: FAILED  three: why 1'
 said 'and so is its part' "$(awk '/^[0-9]+:[0-9][0-9]  \.\/bad: 0 passed, 1 failed$/ { told = 1 } /^2 passed, 0 failed$/ && told { exit found = 1 } END { if (!found) print "not before" }' "$tell")"
-equal 'the end tells it again, and what was skipped' "$(sed -n '/^What failed/,/^What each/p' "$tell" | grep -c 'FAILED  three\|skipped two\|notice: a word')" 3
+equal 'the end tells it again behind the costs, and what was skipped' "$(sed '1,/^What each/d' "$tell" | sed '1,/^What failed/d' | grep -c 'FAILED  three\|skipped two\|notice: a word')" 3
 equal 'a part without counts' "$(grep -c '^\./mute: gave no counts$' "$tell")" 1
 equal 'a part that was not run' "$(grep -c '^\./never: was not run$' "$tell")" 1
 equal 'what a part said' "$(head -n 1 "$work/gate/out/gate/._good")" 'ok      one'
