@@ -17,4 +17,4 @@ mod refusals;
 pub(crate) mod texts;
 mod valued;
 pub(crate) mod valued_pieces;
-pub(crate) mod words;
+pub(crate) mod word_pieces;
