@@ -33,7 +33,7 @@ pub use data::texts::{
     canonical_text_piece, check_text_piece, compare_text_piece, differences_text_piece,
 };
 pub use data::valued_pieces::differences_values_piece;
-pub use data::words::words_piece;
+pub use data::word_pieces::words_piece;
 pub use devices::log::Log;
 pub use devices::read_from::ReadFrom;
 pub use devices::sink::{Sink, write_out};

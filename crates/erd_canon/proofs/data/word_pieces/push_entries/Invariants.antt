@@ -1,7 +1,7 @@
 use Rattle.erd_canon.proofs.Common.{drop, string_bytes}
 use Rattle.erd_canon.specs.code.Fronts.{IsReached}
 use Rattle.erd_canon.specs.code.WordTexts.{AnyObject, worded_size, worded_text}
-use Rattle.erd_canon.proofs.data.words.push_entries.Given as goal
+use Rattle.erd_canon.proofs.data.word_pieces.push_entries.Given as goal
 
 abbrev pub invariant-loop-object : goal.invariant-loop-object
 invariant-loop-object l =

@@ -1,7 +1,7 @@
 use Rattle.erd_canon.proofs.Common.{◌++◌, string_bytes, ap, ◌∙◌, comma_if, compact_text}
 use Rattle.erd_canon.specs.code.WordTexts.{worded_of}
 use Rattle.erd_canon.proofs.data_values.DataTexts.{two_pieces}
-use Rattle.erd_canon.proofs.data.words.push_worded.Goals as goal
+use Rattle.erd_canon.proofs.data.word_pieces.push_worded.Goals as goal
 
 pub returns-clause-wrote : goal.returns-clause-wrote
 returns-clause-wrote c =

@@ -1,8 +1,8 @@
 use Rattle.erd_canon.proofs.Common.{arith, inl, inr, string_bytes}
 use Rattle.erd_canon.specs.code.WordTexts.{AnyObject, worded_size, worded_text}
 use Rattle.erd_canon.proofs.data_values.Fronts.{stopped, taken}
-use Rattle.erd_canon.proofs.data.words.pass_entry.Goals as goal
-use Rattle.erd_canon.proofs.data.words.pass_entry.Goals.{then-ahead-eq0-via-then-ahead-eq0, then-ahead-eq0-via-else-ahead-eq0+then-ahead-eq0-2}
+use Rattle.erd_canon.proofs.data.word_pieces.pass_entry.Goals as goal
+use Rattle.erd_canon.proofs.data.word_pieces.pass_entry.Goals.{then-ahead-eq0-via-then-ahead-eq0, then-ahead-eq0-via-else-ahead-eq0+then-ahead-eq0-2}
 
 pub returns-then-ahead-eq0 : goal.returns-then-ahead-eq0
 returns-then-ahead-eq0 c = λ entries before rest is.

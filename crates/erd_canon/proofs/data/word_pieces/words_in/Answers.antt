@@ -2,7 +2,7 @@ use Rattle.erd_canon.proofs.Common.{ap, subst, option_copied, err_from_is_err_an
 use Rattle.erd_canon.specs.WordAnswers.{TellsWords}
 use Rattle.erd_canon.proofs.data_values.WordLists.{words_accepted}
 use Rattle.erd_canon.proofs.forms.Refusing.{refused_tree}
-use Rattle.erd_canon.proofs.data.words.words_in.Goals as goal
+use Rattle.erd_canon.proofs.data.word_pieces.words_in.Goals as goal
 
 pub returns-in_err-report-clause-refused : goal.returns-in_err-report-clause-refused
 returns-in_err-report-clause-refused c =

@@ -1,6 +1,6 @@
 use Rattle.erd_canon.proofs.Common.{option_copied, IfOk-weaker}
 use Rattle.erd_canon.proofs.data_values.WordLists.{words_refused}
-use Rattle.erd_canon.proofs.data.words.words_piece.Goals as goal
+use Rattle.erd_canon.proofs.data.word_pieces.words_piece.Goals as goal
 
 pub returns-in-Err : goal.returns-in-Err
 returns-in-Err c =

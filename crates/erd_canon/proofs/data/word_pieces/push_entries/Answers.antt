@@ -3,7 +3,7 @@ use Rattle.std.proofs.lemmas.List.{drop_more, drop_all}
 use Rattle.erd_canon.specs.code.Fronts.{IsReached}
 use Rattle.erd_canon.specs.code.WordTexts.{AnyObject, worded_size, worded_text}
 use Rattle.erd_canon.proofs.data_values.Fronts.{ended}
-use Rattle.erd_canon.proofs.data.words.push_entries.Goals as goal
+use Rattle.erd_canon.proofs.data.word_pieces.push_entries.Goals as goal
 
 pub loop-object-preserved : goal.loop-object-preserved
 loop-object-preserved c =

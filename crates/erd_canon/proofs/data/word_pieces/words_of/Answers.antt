@@ -1,5 +1,5 @@
 use Rattle.erd_canon.proofs.Common.{option_copied, err_from_is_err_and}
-use Rattle.erd_canon.proofs.data.words.words_of.Goals as goal
+use Rattle.erd_canon.proofs.data.word_pieces.words_of.Goals as goal
 
 pub returns-in_err-tree-clause-refused : goal.returns-in_err-tree-clause-refused
 returns-in_err-tree-clause-refused c =

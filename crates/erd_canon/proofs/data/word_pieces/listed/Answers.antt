@@ -2,7 +2,7 @@ use Rattle.erd_canon.proofs.Common.{◌≡◌, ℕ, string_bytes, ap, sym, subst
 use Rattle.erd_canon.specs.WordAnswers.{TellsWords}
 use Rattle.erd_canon.specs.declared.data.piece.Told.{Told}
 use Rattle.erd_canon.proofs.data_values.WordLists.{words_told}
-use Rattle.erd_canon.proofs.data.words.listed.Goals as goal
+use Rattle.erd_canon.proofs.data.word_pieces.listed.Goals as goal
 
 pub returns-clause-text : goal.returns-clause-text
 unfolding lib.Utf8.encode
