@@ -162,6 +162,14 @@ def test_unknown_elements_of_one_name():
     assert found.told == [(f'/ElectionReport/{name}', 1, CARRIED_AS_IT_IS) for name in ('X', 'X[2]', 'Y')]
 
 
+def test_an_unknown_element_with_an_attribute_and_a_class():
+    # Of the element itself both are told, and of those inside it nothing.
+    found = from_xml.convert(f'<ElectionReport {SPACE}><X C="1" xsi:type="Pond"><Y D="2" xsi:type="Lake"/></X></ElectionReport>'.encode('utf-8'))
+    assert json.loads(found.form)['X'] == {'@type': 'ElectionResults.Pond', 'C': '1', 'Y': {'@type': 'ElectionResults.Lake', 'D': '2'}}
+    assert found.told == [('/ElectionReport/X', 1, words) for words in (
+        CARRIED_AS_IT_IS, NO_CLASS, 'the attribute C is not understood here; it is carried as a member')]
+
+
 def test_no_namespace_is_told():
     found = from_xml.convert(b'<ElectionReport><Notes>a</Notes></ElectionReport>')
     assert json.loads(found.form) == {'@type': 'ElectionResults.ElectionReport', 'Notes': 'a'}
@@ -202,6 +210,10 @@ UNDERSTOOD = {
     'blanks of a text stay': ('<Notes> a\n</Notes>', {'Notes': ' a\n'}),
     'a prefix of the standard': ('<GpUnit xmlns:n="http://itl.nist.gov/ns/voting/1500-100/v2" xsi:type="n:ReportingUnit"/>',
                                  {'GpUnit': [{'@type': 'ElectionResults.ReportingUnit'}]}),
+    'a prefix that stood for another namespace before': (
+        '<Election xmlns:n="http://itl.nist.gov/ns/voting/1500-100/v2"><ContactInformation xmlns:n="urn:y"/><Contest xsi:type="n:PartyContest"/></Election>',
+        {'Election': [{'@type': 'ElectionResults.Election', 'ContactInformation': {'@type': 'ElectionResults.ContactInformation'},
+                       'Contest': [{'@type': 'ElectionResults.PartyContest'}]}]}),
     'truth values': (f'<IsTest>1</IsTest>{UNIT}><IsDistricted>false</IsDistricted><IsMailOnly>true</IsMailOnly></GpUnit>',
                      {'IsTest': True, 'GpUnit': [{'@type': 'ElectionResults.ReportingUnit', 'IsDistricted': False, 'IsMailOnly': True}]}),
     'whole numbers': ('<SequenceStart>-2</SequenceStart><SequenceEnd>+3</SequenceEnd>', {'SequenceStart': -2, 'SequenceEnd': 3}),
