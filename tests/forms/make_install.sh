@@ -50,11 +50,11 @@ touch "$root/bin/other" "$root/share/doc/other"
 run make --no-print-directory uninstall DESTDIR="$work/root" PREFIX=/opt/erd
 expect 'make uninstall' 0
 equal 'only the files of others are left' "$(find "$work/root" ! -type d -printf '%f ')" 'other other '
-said 'the folder of the documents is gone' "$([ ! -e "$root/share/doc/erd" ] || ls "$root/share/doc/erd")"
+said 'the folder of the documents is gone' "$([ ! -e "$root/share/doc/erd" ] || find "$root/share/doc/erd")"
 run make --no-print-directory uninstall DESTDIR="$work/root" PREFIX=/opt/erd
 expect 'make uninstall where nothing is left' 0
 run make --no-print-directory -n install
-said 'without PREFIX it goes below /usr/local' "$(grep -q ' "/usr/local/bin/erd"$' "$work/out" || cat "$work/out")"
+said 'without PREFIX it goes below /usr/local' "$(grep -q ' "/usr/local/bin/erd"$' "$work/out" || last_words "$work/out")"
 
 # A path with a blank.
 run make --no-print-directory install DESTDIR="$work/with blank" PREFIX='/a b'

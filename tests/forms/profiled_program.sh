@@ -9,7 +9,7 @@ set -u
 if ! command -v "llvm-profdata-$("$(dirname "$(rt doc)")/toolchain/bin/clang" -dumpversion | cut -d . -f 1)" > /dev/null; then
     echo 'skipped the program with a profile: there is no llvm-profdata of the version of the kit'
     run env -u PROFILE packaging/profiled.sh erd
-    said 'it is not made without one' "$([ "$status" -ne 0 ] && [ ! -s "$work/out" ] || cat "$work/out")"
+    said 'it is not made without one' "$([ "$status" -ne 0 ] && [ ! -s "$work/out" ] || last_words "$work/out")"
     run env PROFILE=no packaging/profiled.sh erd
     expect_text 'where no profile is asked for, the plain program is handed on' 0 erd
     counts

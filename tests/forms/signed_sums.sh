@@ -36,7 +36,7 @@ else
     echo 'skipped GnuPG: there is no gpg, or no gpg-agent'
 fi
 each 'the sums' sha256sum 0
-said 'the page has the commands' "$([ "$(commands 'minisign\|gpg\|sha256sum' | wc -l)" -eq 5 ] || commands 'minisign\|gpg\|sha256sum')"
+said 'the page has the commands' "$([ "$(commands 'minisign\|gpg\|sha256sum' | wc -l)" -eq 5 ] || echo "it has: $(commands 'minisign\|gpg\|sha256sum')")"
 echo x >> "$work/release/file"
 run env -C "$work/release" sh -c "$(commands sha256sum)"
 expect 'another file is refused' 1

@@ -59,12 +59,12 @@ finding() {
     local words kept
     words=$(grep -m 1 -aoE 'BROKEN: .*|ERROR: (AddressSanitizer|LeakSanitizer|libFuzzer): [^(]*|^fuzz: .*' "$made/$1.log")
     kept=$(grep -aoE "$made/[a-z-]+/[a-z]+-[0-9a-f]+" "$made/$1.log" | tail -n 1)
-    echo "${words:-$(tail -n 2 "$made/$1.log")}${kept:+; the input is $kept}"
+    echo "${words:-it ended with: $(tail -n 2 "$made/$1.log")}${kept:+; the input is $kept}"
 }
 
 { conformance/make && python3 tests/fuzz/inputs.py "$made" && proved_for_fuzzing && built fuzz bindings/c/erd.c; } > "$made/build.log" 2>&1
 status=$?
-said 'the library and its fuzzer' "$([ "$status" -eq 0 ] || tail -n 3 "$made/build.log")"
+said 'the library and its fuzzer' "$([ "$status" -eq 0 ] || last_words "$made/build.log")"
 [ "$status" -eq 0 ] || { counts; exit; }
 
 corpus=$made/corpus

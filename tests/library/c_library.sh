@@ -22,7 +22,7 @@ chosen() {
 if [ -z "${LIBRARY_IS_MADE:-}" ]; then
     make --no-print-directory library > "$work/out" 2> "$work/err"
     status=$?
-    said 'make library' "$([ "$status" -eq 0 ] || tail -n 5 "$work/err")"
+    said 'make library' "$([ "$status" -eq 0 ] || last_words "$work/err")"
     [ "$status" -eq 0 ] || { counts; exit; }
 fi
 
@@ -43,12 +43,12 @@ has() {
 }
 
 "$compiler" -std=c11 -Wall -Wextra -o "$callers/archive" tests/library/caller.c out/c/liberd.a -lpthread 2> "$work/err"
-said 'a caller in C that links the archive alone' "$([ $? -eq 0 ] || tail -n 5 "$work/err")"
+said 'a caller in C that links the archive alone' "$([ $? -eq 0 ] || last_words "$work/err")"
 "$callers/archive" odd "$one" > "$work/out" 2> "$work/err"
 status=$?
 expect 'unusual arguments, with the archive alone' 0 "$work/empty" ''
 built plain
-said 'a caller in C' "$([ $? -eq 0 ] || tail -n 5 "$work/err")"
+said 'a caller in C' "$([ $? -eq 0 ] || last_words "$work/err")"
 if "$compiler" -x c++ -fsyntax-only - < /dev/null 2> /dev/null; then
     "$compiler" -std=c++11 -x c++ -fsyntax-only - <<< '#include "bindings/c/erd.h"' 2> "$work/err"
     said 'the header is C++ too' "$(head -n 3 "$work/err")"
@@ -62,26 +62,26 @@ export ASAN_OPTIONS=detect_leaks=1:allocator_may_return_null=1 UBSAN_OPTIONS=hal
 if has -fsanitize=address,undefined; then
     sanitizers=(-fsanitize=address,undefined)
     built address -fsanitize=address,undefined
-    said 'a caller in C under AddressSanitizer' "$([ $? -eq 0 ] || tail -n 5 "$work/err")"
+    said 'a caller in C under AddressSanitizer' "$([ $? -eq 0 ] || last_words "$work/err")"
     erd=$callers/address
     "$compiler" -x c "${sanitizers[@]}" -o "$work/leaks" - <<< '#include <stdlib.h>
 int main(void) { return malloc(16) == NULL; }' 2> "$work/err"
     "$work/leaks" > "$work/out" 2>> "$work/err"
-    said 'memory that is not freed is noticed' "$(grep -q 'LeakSanitizer: detected memory leaks' "$work/err" || tail -n 3 "$work/err")"
+    said 'memory that is not freed is noticed' "$(grep -q 'LeakSanitizer: detected memory leaks' "$work/err" || last_words "$work/err")"
 else
     echo "skipped AddressSanitizer: the compiler has none, or it doesn't run here"
 fi
 "$compiler" -std=c11 -g -O1 -Wall -Wextra "${sanitizers[@]}" -o "$callers/loop" tests/library/c_side_alone.c 2> "$work/err" \
     && "$callers/loop" > "$work/out" 2> "$work/err"
 status=$?
-said "the C side alone: $(tail -n 1 "$work/out")" "$([ "$status" -eq 0 ] || head -qn 3 "$work/out" "$work/err")"
+said "the C side alone: $(tail -n 1 "$work/out")" "$([ "$status" -eq 0 ] || last_words "$work/out" "$work/err")"
 CC=$compiler tests/library/lists_alone.sh "${sanitizers[@]}" > "$work/out" 2> "$work/err"
 status=$?
-said "what it keeps of lists: $(tail -n 1 "$work/out")" "$([ "$status" -eq 0 ] || head -qn 3 "$work/out" "$work/err")"
+said "what it keeps of lists: $(tail -n 1 "$work/out")" "$([ "$status" -eq 0 ] || last_words "$work/out" "$work/err")"
 if chosen 'the conformance suite'; then
     conformance/run "$erd" > "$work/suite" 2>&1
     status=$?
-    said "the conformance suite: $(tail -n 1 "$work/suite")" "$([ "$status" -eq 0 ] || head -n 3 "$work/suite")"
+    said "the conformance suite: $(tail -n 1 "$work/suite")" "$([ "$status" -eq 0 ] || last_words "$work/suite")"
 fi
 
 "$erd" odd "$one" > "$work/out" 2> "$work/err"
@@ -198,7 +198,7 @@ if chosen 'the conformance suite, in lines and as data'; then
     python3 tests/library/suite_by_ctypes.py "$work/liberd.so" > "$work/out" 2> "$work/err"
     status=$?
     said "the conformance suite, in lines and as data: $(tail -n 1 "$work/out")" \
-        "$([ "$status" -eq 0 ] || head -qn 3 "$work/out" "$work/err")"
+        "$([ "$status" -eq 0 ] || last_words "$work/out" "$work/err")"
 fi
 
 counts

@@ -11,7 +11,7 @@ conformance/make
 has_wasm 'the page' || { counts; exit; }
 python3 web/build.py "$wasm" "$page" 2> "$work/err"
 status=$?
-said 'the build' "$([ "$status" -eq 0 ] || tail -n 3 "$work/err")"
+said 'the build' "$([ "$status" -eq 0 ] || last_words "$work/err")"
 [ "$status" -eq 0 ] || { counts; exit; }
 python3 web/build.py "$wasm" "$work/again.html" 2> "$work/err"
 said 'the same bytes each time' "$(cmp "$work/again.html" "$page" 2>&1)"

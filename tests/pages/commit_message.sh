@@ -17,7 +17,7 @@ passes() {
 refused() {
     local words
     words=$(git -C "$work/clone" commit -q --allow-empty --cleanup=verbatim -m "$1" 2>&1) && words='it passed'
-    said "refused: $2" "$(grep -qF "$2" <<< "$words" || echo "$words")"
+    said "refused: $2" "$(grep -qF "$2" <<< "$words" || echo "it said: $words")"
 }
 
 passes $'Sort each family once\n\nNumbers and order both come from one table.'

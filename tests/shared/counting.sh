@@ -13,6 +13,11 @@ said() {
     fi
 }
 
+# last_words FILE ..: the last lines of files, as a reason that is never empty
+last_words() {
+    echo "it said: $(tail -qn 5 -- "$@")"
+}
+
 # counted NAME LOG: adds the counts at the end of what another script has said, and shows its lines
 counted() {
     local last
