@@ -4,3 +4,4 @@ pub mod PartnerExamples
 pub mod BallotExamples
 pub mod WordExamples
 pub mod WordListExamples
+pub mod BallotElectionExamples
