@@ -5,3 +5,4 @@ pub mod BallotExamples
 pub mod WordExamples
 pub mod WordListExamples
 pub mod BallotElectionExamples
+pub mod SelectionValueExamples
