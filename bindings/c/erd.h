@@ -263,8 +263,9 @@ enum erd_outcome erd_prepare(const void *bytes, size_t size, const char *steps, 
 enum erd_outcome erd_ballots(const void *bytes, size_t size, const char *prefer, char **text, size_t *length);
 
 /* Tells one ballot of a report: that of the style at this position, as erd_ballots tells it. The text is compact JSON in UTF-8, with
- * no line end: `null` if there is no such style, or an object with `key`, `parties` and `units`, and in `lines` the headers and
- * contests in the order of the ballot. A line looks like
+ * no line end: `null` if there is no such style, or an object with `key`, `parties` and `units`, in `election` the key of the
+ * Election that holds the style, or null if that has none, and in `lines` the headers and contests in the order of the ballot. A
+ * line looks like
  *
  *     {"depth":1,"listed":true,"selections":[..],"what":["contest",["local-level","","C1"]]}
  *
@@ -281,8 +282,9 @@ enum erd_outcome erd_ballot(const void *bytes, size_t size, const char *prefer, 
  *
  * `left` and `right` are the positions of the style, or null. `below` has the lines that say what differs on its ballots, each ended by
  * one line feed: none if only one report has the style. The outcome is ERD_GOOD if the array is empty, and ERD_BAD if it is
- * not. If a report is refused, the text is that of erd_compare_data. Ballots are the same if their texts of erd_ballot are, and they
- * print the same words of contests, headers, selections, candidates, parties and units: erd_differences tells what differs. */
+ * not. If a report is refused, the text is that of erd_compare_data. Ballots are the same if their texts of erd_ballot are, whichever
+ * elections hold them, and they print the same words of contests, headers, selections, candidates, parties and units:
+ * erd_differences tells what differs. */
 enum erd_outcome erd_ballot_differences(const void *left, size_t left_size, const void *right, size_t right_size,
                                         const char *prefer, char **text, size_t *length);
 

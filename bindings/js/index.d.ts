@@ -190,7 +190,14 @@ export interface BallotLine {
 
 /** One ballot of a report; `ballot` is null if the report is refused, or has no style at the position. */
 export class OneBallot extends Checked {
-    readonly ballot: { readonly key: Key | null; readonly lines: BallotLine[]; readonly parties: Key[]; readonly units: Key[] } | null;
+    readonly ballot: {
+        /** The key of the Election that holds its style; null if that has none. */
+        readonly election: Key | null;
+        readonly key: Key | null;
+        readonly lines: BallotLine[];
+        readonly parties: Key[];
+        readonly units: Key[];
+    } | null;
 }
 
 /** Which ballots are not the same in two reports. */

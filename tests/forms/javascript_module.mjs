@@ -387,6 +387,10 @@ for (const { ExternalIdentifier: codes } of coded.Election[0].BallotStyle) {
     codes.push({ ...codes[0], Type: 'fips', Value: `F-${codes[0].Value}` });
 }
 equal('ballots: one of them under a preference', erd.ballot(JSON.stringify(coded), 0, { prefer: 'fips' }).ballot.key.join(), `fips,,F-${codeOf(styles[0])}`);
+const ofTwo = fileOf(EXAMPLES, 'two-elections.vendor-a.json');
+equal('ballots: the election of each', erd.ballots(ofTwo).ballots.map(({ key, position }) => `${key[2]} ${erd.ballot(ofTwo, position).ballot.election}`).join(),
+    'BS-GRANITE local-level,,2026-PRIMARY,BS-HARBOR local-level,,2026-PRIMARY,BS-MEASURES local-level,,2026-REFERENDUM');
+equal('ballots: no key of an election', erd.ballot(fileOf(EXAMPLES, 'small-ballot.json'), 0).ballot.election, null);
 equal('ballots: none there', erd.ballot(county, styles.length).ballot, null);
 equal('ballots: of a refused report', erd.ballots('{').text, 'not JSON\n');
 equal('ballots: the same', erd.ballotDifferences(county, other).text, 'same ballots\n');

@@ -38,6 +38,7 @@ const copies: { left: Copy; right: Copy } = comparePrepared(new Uint8Array(), ne
 const letters: string[] = [remedyOf(8).letter, ...remedyOf(8).steps, lineOfRemedy(8)];
 const lengths: number[] = [prepared.bytes.length, letters.length, ...prepared.steps.map((step) => told(step).changes.length)];
 const positions: number[] = erd.ballots('').ballots.map((ballot) => ballot.position);
+const election: string | null = erd.ballot('', 0).ballot?.election?.[2] ?? null;
 const depths: number[] = erd.ballot('', 0)?.ballot?.lines.map((line) => line.depth) ?? [];
 const printed: ['unit' | 'party' | 'person' | 'office' | 'header' | 'election' | 'candidate' | 'contest', string | undefined][] =
     erd.words('', { mostEntries: 1 }).entries.map((entry) => [entry.part, entry.selections?.[0]?.name[0]]);

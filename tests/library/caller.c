@@ -277,7 +277,8 @@ static int odd_ballots(void) {
          "[{\"at\":0,\"key\":[\"local-level\",\"\",\"B1\"],\"lines\":1,\"parties\":[],\"units\":[[\"fips\",\"\","
          "\"20\"]]}]"},
         {LISTED, NULL, 0, ERD_GOOD,
-         "{\"key\":[\"local-level\",\"\",\"B1\"],\"lines\":[{\"depth\":0,\"listed\":true,"
+         "{\"election\":[\"local-level\",\"\",\"E1\"],\"key\":[\"local-level\",\"\",\"B1\"],"
+         "\"lines\":[{\"depth\":0,\"listed\":true,"
          "\"selections\":[[\"ElectionResults.CandidateSelection\",[[\"local-level\",\"\",\"K1\"]],false,null,null,"
          "null]],\"what\":[\"contest\",[\"local-level\",\"\",\"C1\"]]}],\"parties\":[],\"units\":[[\"fips\",\"\","
          "\"20\"]]}"},

@@ -219,6 +219,11 @@ async function judgementOfTwo(changed) {
 
 const ofEach = await judgementOfTwo((primary) => primary.BallotStyle.pop());
 equal('a ballot style in each election is one for each voter', ofEach.overview({}, quiet).precincts, { all: 3, none: 0, several: 0 });
+// Each names its own election, which the ballot itself tells.
+const firstOn = (style) => ofEach.ballot({ key: style, next: null }, quiet).lines.slice(0, 2).map(({ role, texts }) => `${role} ${texts[0].pieces[0].text}`);
+const { entries: stylesOfBoth } = ofEach.styles({ words: '', group: 'all', from: 0, count: 9 }, quiet);
+equal('each ballot has the name of its election', stylesOfBoth.map(({ key: style, code }) => [code, ...firstOn(style)]), [
+    ['local-level BS-HARBOR', 'election Primary Election', 'date 2026-06-02'], ['local-level BS-MEASURES', 'election County Referendum', 'date 2026-06-02']]);
 equal('two of one election are not', (await judgementOfTwo(() => {})).overview({}, quiet).precincts, { all: 3, none: 0, several: 3 });
 const [{ elections }] = await ofEach.sums({}, quiet);
 equal('both elections, each with its days', elections.map(({ name, start, end }) => `${name} ${start} ${end}`),

@@ -70,7 +70,7 @@ function headers(numbers) {
     return made;
 }
 function marks(left, right) {
-    const both = ballotsOf(headers(left), headers(right)).ballotsOf(KEY);
+    const both = ballotsOf(headers(left), headers(right)).ballotsOf(KEY).ballots;
     const items = Array.from({ length: both.count }, (_, at) => both.item(at)).filter(({ mark }) => mark !== '');
     return items.map(({ lines: [{ texts: [{ pieces }] }], mark, from, to }) => [pieces.map(({ text }) => text).join(''), mark, ...(mark === 'moved' ? [from, to] : [])]);
 }

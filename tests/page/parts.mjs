@@ -245,6 +245,17 @@ const renamed = (change = () => {}) => report((made, election) => {
 });
 equal('another name of the election', [sentencesOf(ballotsOf(plain, renamed())), sentencesOf(ballotsOf(plain, renamed((made) => { made.GpUnit[1].Name = 'Out'; })))],
     [[], [' words  1']]);
+// A style can move to another election: its ballot is the same but for that.
+const ofTwo = (at) => report((made, election) => {
+    const [style] = election.BallotStyle.splice(1);
+    election.ExternalIdentifier = identified('E1');
+    made.Election.push(typed('Election', { ExternalIdentifier: identified('E2'), Name: 'Runoff', StartDate: '2026-12-01', Contest: [], BallotStyle: [] }));
+    made.Election[at].BallotStyle.push(style);
+});
+const moved = ballotsOf(ofTwo(0), ofTwo(1));
+const electionOn = (answers, code) => shown({ lines: answers.ballot({ key: keyOf(code) }).lines.slice(0, 1) })[1];
+equal('a ballot in another election', [moved.seen().differing, electionOn(moved, 'S1'), electionOn(moved, 'S2'), sentencesOf(moved)],
+    [0, [['election', 'Test']], [['election', '<removed Test><added Runoff>']], []]);
 equal('what looks the same is told', sentencesOf(hidden), ['For Governor changed  2']);
 // Another identifier is told as one thing, and marked on both lines: the proved code tells one that is gone, and another one.
 const otherCandidate = report((_made, election) => { election.Candidate[2].ExternalIdentifier = identified('K9'); });

@@ -107,9 +107,9 @@ export class BallotAnswers {
         return this.differing.get(key)?.below ?? '';
     }
 
-    /** The first lines of the ballot of a style in each file: of its election, and of whoever gets it. */
-    linesOf(key) {
-        return this.inBoth(key, (side, head) => this.words[side].lines(head));
+    /** The lines that say who gets the ballot of a style in each file. */
+    votersOf(key) {
+        return this.inBoth(key, (side, head) => this.words[side].voters(head));
     }
 
     /**
@@ -119,10 +119,11 @@ export class BallotAnswers {
      *     and how many items are left
      */
     ballot({ key, next }) {
-        return { lines: mergedLines(...this.linesOf(key)), ...partOf(this.ballotsOf(key), next ?? { item: 0, line: 0 }) };
+        const { lines, ballots } = this.ballotsOf(key);
+        return { lines: mergedLines(...lines), ...partOf(ballots, next ?? { item: 0, line: 0 }) };
     }
 
-    // The ballots of a style beside each other. They are kept for a while, since each answer judges the files anew.
+    // The ballots of a style beside each other, and the first lines of each. They are kept for a while, since each answer judges the files anew.
     ballotsOf(key) {
         if (!this.kept.has(key)) {
             this.kept.set(key, this.madeBallots(key));
@@ -134,8 +135,18 @@ export class BallotAnswers {
     madeBallots(key) {
         const sides = this.sidesOf(key);
         const places = sides.map((side) => this.told[side].get(key).at);
-        const told = sides.length === 2 ? this.ask('erd_ballots_beside', sides, ...places) : besideItself(this.ask('erd_ballot', sides, ...places).lines);
-        return new BothBallots(told, this.inBoth(key, (side) => this.words[side]));
+        const alone = sides.length === 2 ? null : this.ask('erd_ballot', sides, ...places);
+        const told = alone === null ? this.ask('erd_ballots_beside', sides, ...places) : besideItself(alone.lines);
+        return {
+            lines: this.inBoth(key, (side, head) => this.words[side].lines(head, this.electionOf(side, head, alone))),
+            ballots: new BothBallots(told, this.inBoth(key, (side) => this.words[side])),
+        };
+    }
+
+    // The key of the election of a ballot: only the ballot itself tells it. Of one election it is known already.
+    electionOf(side, { at }, alone) {
+        const [{ key }, ...others] = this.reports[side].of('election').values();
+        return others.length === 0 ? key : (alone ?? this.ask('erd_ballot', [side], at)).election;
     }
 }
 

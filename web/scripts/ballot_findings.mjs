@@ -30,7 +30,7 @@ export class BallotFindings {
         const heads = answers.heads();
         this.all = heads.length;
         for (const head of heads.filter(({ mark }) => mark !== '')) {
-            const found = head.mark === 'changed' ? things.of(answers.linesOf(head.key), answers.belowOf(head.key)) : [{ ...OF_STYLE, what: head.mark }];
+            const found = head.mark === 'changed' ? things.of(answers.votersOf(head.key), answers.belowOf(head.key)) : [{ ...OF_STYLE, what: head.mark }];
             found.forEach((thing) => this.add(head, thing));
         }
         this.entries = [...this.found.values()].sort((one, other) => other.count - one.count);
@@ -66,14 +66,14 @@ class BallotThings {
         this.kept = new Map();
     }
 
-    // What differs on a ballot of both files, of its first lines in each file and what the proved code says.
-    of(heads, below) {
+    // What differs on a ballot of both files, of the lines that say who gets it in each file and what the proved code says.
+    of(voters, below) {
         const told = linesIn(below);
-        const words = reworded(OF_STYLE, mergedLines(...heads.map((lines) => lines.filter(({ role }) => VOTERS.has(role)))));
-        const voters = told.filter(({ kind }) => VOTERS.has(kind) && !words.some(({ role }) => role === kind));
+        const words = reworded(OF_STYLE, mergedLines(...voters));
+        const others = told.filter(({ kind }) => VOTERS.has(kind) && !words.some(({ role }) => role === kind));
         const lines = told.filter(({ kind }) => !VOTERS.has(kind));
         const hasOther = otherIdentifiers(lines, ({ how, kind, key }) => `${kind} ${this.sideOf(how).words(kind, key).print}`);
-        return [...words, ...voters.map(() => ({ ...OF_STYLE, what: 'changed' })), ...lines.flatMap((one) => this.ofLine(one, hasOther(one)))];
+        return [...words, ...others.map(() => ({ ...OF_STYLE, what: 'changed' })), ...lines.flatMap((one) => this.ofLine(one, hasOther(one)))];
     }
 
     // The file that has what was removed, or what has another place or was added.

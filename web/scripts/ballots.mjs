@@ -39,14 +39,16 @@ export class BallotWords {
         return keys.map((key) => this.report.thing(part, key)).map(({ title, key }) => title ?? textOfTriple(key)).sort();
     }
 
-    /** The first lines of a ballot: its election, its units and its parties. Of several elections the proved code does not tell which it is. */
-    lines(told) {
-        const { units, parties } = this.head(told);
-        const [{ words: { Name, StartDate } }, ...others] = this.report.of('election').values();
-        return [
-            ...(others.length > 0 ? [] : [{ role: 'election', label: labelOf(Name) }, plainLine('date', StartDate)]), plainLine('units', units.join(', ')),
-            ...(parties.length > 0 ? [plainLine('parties', parties.join(', '))] : []),
-        ];
+    /** The first lines of a ballot, in the election with this key: the election, and who gets it. The only election of a file may have no key. */
+    lines(head, election) {
+        const { words: { Name, StartDate } } = this.report.thing('election', election);
+        return [{ role: 'election', label: labelOf(Name) }, plainLine('date', StartDate), ...this.voters(head)];
+    }
+
+    /** The lines that say who gets a ballot: its units and its parties. */
+    voters(head) {
+        const { units, parties } = this.head(head);
+        return [plainLine('units', units.join(', ')), ...(parties.length > 0 ? [plainLine('parties', parties.join(', '))] : [])];
     }
 
     /**

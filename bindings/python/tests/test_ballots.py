@@ -69,6 +69,15 @@ def test_each_ballot(report):
     assert erd.ballot(report, len(styles_of(report))).ballot is None
 
 
+def test_the_election_of_each_ballot(top):
+    report = (top / 'examples' / 'two-elections.vendor-a.json').read_bytes()
+    elections = {head.key[2]: erd.ballot(report, head.position).ballot.election for head in erd.ballots(report).ballots}
+    primary, referendum = (('local-level', '', value) for value in ('2026-PRIMARY', '2026-REFERENDUM'))
+    assert elections == {'BS-GRANITE': primary, 'BS-HARBOR': primary, 'BS-MEASURES': referendum}
+    alone = json.loads((top / 'examples' / 'small-ballot.json').read_bytes())
+    assert 'ExternalIdentifier' not in alone['Election'][0] and erd.ballot(json.dumps(alone), 0).ballot.election is None
+
+
 def test_the_same_ballots(report):
     found = erd.ballot_differences(report, report)
     assert found.same and found and found.lines == ('same ballots',)

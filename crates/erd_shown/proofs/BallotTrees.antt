@@ -1,10 +1,11 @@
 -- The values of ballots are trees whose numbers fit 64 bits. So two with one text are one value.
 use Rattle.erd_shown.proofs.Common.{◌≡◌, ℕ, ◌^◌, Bool, true, false, if◌then◌else◌, List, [], ◌∷◌, map, pos, negsuc, Some, None, Option, nat_lt, bytes_eq, refl}
 use Rattle.erd_shown.proofs.Common.{subst, both_ways, option_map_or, slice_get, Data, null, number, unsigned, negative, compact_text, is_same_json, text_exact}
-use Rattle.erd_shown.proofs.Common.{text_itself, is_same_exact, family, Preference, Key, NameParts, Placed, objects, IsTree, HasFittingNumbers}
+use Rattle.erd_shown.proofs.Common.{text_itself, is_same_exact, family, Preference, key_of, Key, NameParts, Placed, objects, IsTree, HasFittingNumbers}
 use Rattle.std.proofs.lemmas.Bool.{ltb-true}
 use Rattle.std.specs.Prelude.{ℤ}
-use Rattle.erd_shown.specs.Ballots.{ballot_data, ballot_in, keyed_ballot, line_data, lines_of, thing_at, thing_data}
+use Rattle.erd_shown.specs.BallotDifferences.{compared_in}
+use Rattle.erd_shown.specs.Ballots.{compared_ballot, line_data, lines_of, thing_at, thing_data}
 use Rattle.erd_shown.specs.KeyData.{array_of, shown_key, shown_key_or_null, shown_name, shown_order, shown_text_or_null, shown_whole}
 use Rattle.erd_shown.specs.ListedNames.{names_on}
 use Rattle.erd_shown.proofs.fit.ExactTexts.{compact_exact}
@@ -67,19 +68,19 @@ module _ (π : Preference) (t : Data) where
       let thing = thing_sound (thing_at π t d) in
       ((refl, whole.0, (refl, tt, (refl, names.0, (tt, thing.0, tt)))), (whole.1, (tt, (names.1, (thing.1, tt)))))
 
-  keyed_sound : (key : Option Key) (d : Data) → IsSound (keyed_ballot π t key d)
-  keyed_sound key d =
-      let k = key_or_null_sound key in
+  compared_sound : (d : Data) → IsSound (compared_ballot π t d)
+  compared_sound d =
+      let k = key_or_null_sound (key_of π d) in
       let lines = mapped (line_data π t) line_sound (lines_of d) in
       let parties = mapped shown_key key_sound _ in
       let units = mapped shown_key key_sound _ in
       ((refl, k.0, (refl, lines.0, (refl, parties.0, (tt, units.0, tt)))), (k.1, (lines.1, (parties.1, (units.1, tt)))))
 
-  placed_sound : (o : Option Placed) → IsSound (option_map_or (λ o. ballot_data π t o.value) o null)
+  placed_sound : (o : Option Placed) → IsSound (option_map_or (λ o. compared_ballot π t o.value) o null)
   placed_sound None = (tt, tt)
-  placed_sound (Some o) = keyed_sound _ o.value
+  placed_sound (Some o) = compared_sound o.value
 
-  pub ballot_sound : (i : ℕ) → IsSound (ballot_in π t i)
+  pub ballot_sound : (i : ℕ) → IsSound (compared_in π t i)
   ballot_sound i = placed_sound (slice_get (objects family.Style t) i)
 
 same_values : (a b : Data) → IsSound a → IsSound b → bytes_eq (compact_text a) (compact_text b) ≡ is_same_json a b
@@ -90,5 +91,5 @@ same_values a b one other =
 
 -- two ballots are one value if and only if they have one text
 pub same_ballots : (π : Preference) (t : Data) (ρ : Preference) (u : Data) (i j : ℕ)
-    → bytes_eq (compact_text (ballot_in π t i)) (compact_text (ballot_in ρ u j)) ≡ is_same_json (ballot_in π t i) (ballot_in ρ u j)
-same_ballots π t ρ u i j = same_values (ballot_in π t i) (ballot_in ρ u j) (ballot_sound π t i) (ballot_sound ρ u j)
+    → bytes_eq (compact_text (compared_in π t i)) (compact_text (compared_in ρ u j)) ≡ is_same_json (compared_in π t i) (compared_in ρ u j)
+same_ballots π t ρ u i j = same_values (compared_in π t i) (compared_in ρ u j) (ballot_sound π t i) (ballot_sound ρ u j)

@@ -4,3 +4,5 @@ pub mod PartnerExamples
 pub mod BallotExamples
 pub mod WordExamples
 pub mod WordListExamples
+pub mod BallotElectionExamples
+pub mod SelectionValueExamples

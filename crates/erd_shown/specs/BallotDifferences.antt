@@ -4,7 +4,7 @@ use Rattle.std.specs.List.{filter_map}
 use Rattle.std.specs.Option.{option_cmp, option_map_or}
 use Rattle.std.specs.Ordering.{eq_by_cmp}
 use Rattle.std.specs.Str.{bytes_eq}
-use Rattle.serde_json.specs.Data.{Data, Members, no_members, member}
+use Rattle.serde_json.specs.Data.{Data, null, Members, no_members, member}
 use Rattle.serde_json.specs.Written.{compact_text}
 use Rattle.erd_tables.specs.declared.class.Family.TheVariants as family
 use Rattle.erd_check.specs.Trees.{is_same_json}
@@ -13,7 +13,7 @@ use Rattle.erd_meaning.specs.Lookups.{rising_keys}
 use Rattle.erd_meaning.specs.Objects.{objects}
 use Rattle.erd_meaning.specs.declared.keys.key.Key.{Key}
 use Rattle.erd_shown.specs.BallotWords.{selections_in}
-use Rattle.erd_shown.specs.Ballots.{ballot_in}
+use Rattle.erd_shown.specs.Ballots.{compared_ballot}
 use Rattle.erd_shown.specs.KeyData.{shown_key_or_null}
 use Rattle.erd_shown.specs.Partners.{partners}
 use Rattle.erd_shown.specs.Reworded.{is_ballot_reworded}
@@ -41,9 +41,14 @@ of_style s = record { key = option_copied s.key; left = s.left; right = s.right 
 abbrev pub style_members : StyleFound → Members
 style_members s = member (codes "key") (shown_key_or_null s.key) (member (codes "left") (number_or_null s.left) (right_members s.right))
 
--- True if the ballots of the styles at two positions are one value: their lines, and which voters get them.
+-- The ballot of the style at this position as it is compared, or null if there is none.
+abbrev pub compared_in : Preference → Data → ℕ → Data
+compared_in π t i = option_map_or (λ o. compared_ballot π t o.value) (slice_get (objects family.Style t) i) null
+
+-- True if the ballots of the styles at two positions are one value, whichever elections hold them: their lines, and which voters
+-- get them.
 abbrev pub has_same_lines : Preference → Data → Preference → Data → ℕ → ℕ → Bool
-has_same_lines π t ρ u i j = is_same_json (ballot_in π t i) (ballot_in ρ u j)
+has_same_lines π t ρ u i j = is_same_json (compared_in π t i) (compared_in ρ u j)
 
 -- True if the ballot of the style at this position prints other words in the other report.
 abbrev pub is_reworded_at : Preference → Data → Preference → Data → ℕ → Bool

@@ -13,7 +13,7 @@ use Rattle.erd_shown.specs.BallotDifferences.{AreBallotDifferences, StyleFound, 
 use Rattle.erd_shown.specs.BallotDifferences.{told_of_both, told_of_left, told_of_right}
 use Rattle.erd_shown.specs.BallotLines.{AreDifferingLines}
 use Rattle.erd_shown.specs.BallotWords.{printed_selections}
-use Rattle.erd_shown.specs.Ballots.{ballot_data, line_data, lines_data, lines_of}
+use Rattle.erd_shown.specs.Ballots.{ballot_data, compared_ballot, line_data, lines_data, lines_of}
 use Rattle.erd_shown.specs.Laws.{IsTaken}
 use Rattle.erd_shown.specs.Partners.{partners}
 use Rattle.erd_shown.specs.Reworded.{is_ballot_reworded}
@@ -34,10 +34,11 @@ BallotsTell =
     → AllByRecursion (TellsNoDifference (map (line_data π t) (lines_of d)) (map (line_data ρ u) (lines_of e))) rows
     → lines_data π t d ≡ lines_data ρ u e
 
--- The ballots of two styles are one: who gets them, their lines, what is printed of the selections, and all words.
+-- The ballots of two styles are one, whichever elections hold them: who gets them, their lines, what is printed of the
+-- selections, and all words.
 abbrev pub IsOneBallot : Preference → Data → Data → Preference → Data → Data → Type 0
 IsOneBallot π t d ρ u e =
-    (ballot_data π t d ≡ ballot_data ρ u e)
+    (compared_ballot π t d ≡ compared_ballot ρ u e)
     × (compact_text (printed_selections π t d) ≡ compact_text (printed_selections ρ u e))
     × (is_ballot_reworded π t ρ u d ≡ false)
 
@@ -81,9 +82,11 @@ SameBallotsTell =
     (π ρ : Preference) (t u d e : Data) (i j : ℕ) → style_in t i ≡ Some d → style_in u j ≡ Some e
     → (is_same_ballot π t ρ u i j ≡ true) ↔ IsOneBallot π t d ρ u e
 
--- In reports that mean the same, two styles with one key have one ballot, and no style is told.
+-- In reports that mean the same, two styles with one key have one ballot. It is told alike, its election too, and no style is
+-- told as one that differs.
 abbrev pub MeaningsTell : Type 0
 MeaningsTell =
     (π ρ : Preference) (t u : Data) → IsTaken π t → IsTaken ρ u → meaning π t ≡ meaning ρ u
-    → ((o p : Placed) → IsObject t family.Style o → IsObject u family.Style p → key_of π o.value ≡ key_of ρ p.value → IsOneBallot π t o.value ρ u p.value)
+    → ((o p : Placed) → IsObject t family.Style o → IsObject u family.Style p → key_of π o.value ≡ key_of ρ p.value
+    → IsOneBallot π t o.value ρ u p.value × (ballot_data π t o ≡ ballot_data ρ u p))
     × ((found : List StyleFound) → AreBallotDifferences π t ρ u found → found ≡ [])

@@ -4,16 +4,17 @@ use Rattle.std.specs.Option.{option_map_or}
 use Rattle.serde_json.specs.Data.{Data, null, boolean, string, object, Members, no_members, member}
 use Rattle.serde_json.specs.Find.{get}
 use Rattle.erd_tables.specs.declared.class.Family.TheVariants as family
+use Rattle.erd_tables.specs.declared.class.Role.TheVariants as role
 use Rattle.erd_check.specs.Values.{entries_at, text_at}
 use Rattle.erd_meaning.specs.Keys.{Preference, key_of}
-use Rattle.erd_meaning.specs.Objects.{objects}
+use Rattle.erd_meaning.specs.Objects.{Placed, objects}
 use Rattle.erd_meaning.specs.Records.{class_of_node, is_header_class}
 use Rattle.erd_meaning.specs.SelectionNames.{key_named}
 use Rattle.erd_meaning.specs.declared.keys.key.Key.{Key}
 use Rattle.erd_shown.specs.KeyData.{array_of, shown_key_or_null, shown_name, shown_whole}
 use Rattle.erd_shown.specs.ListedNames.{lists_selections, names_on}
 use Rattle.erd_shown.specs.Lines.{content_lines}
-use Rattle.erd_shown.specs.Shown.{keys_data}
+use Rattle.erd_shown.specs.Shown.{holder_key, keys_data}
 
 -- What a line is: whether it is a header, and its key.
 abbrev pub thing_at : Preference → Data → Data → Bool × Option Key
@@ -52,16 +53,23 @@ voters_members π t d =
     member (codes "parties") (keys_data π t family.Party (entries_at (codes "PartyIds") d))
     (member (codes "units") (keys_data π t family.Unit (entries_at (codes "GpUnitIds") d)) no_members)
 
--- The ballot of a style with this key: its lines, and which voters get it.
-abbrev pub keyed_ballot : Preference → Data → Option Key → Data → Data
-keyed_ballot π t key d =
-    object (member (codes "key") (shown_key_or_null key)
-    (member (codes "lines") (lines_data π t d) (voters_members π t d)))
+-- The ballot of a style with this key, without its election: the key, the lines, and which voters get it, as the last members of
+-- its object.
+abbrev pub keyed_members : Preference → Data → Option Key → Data → Members
+keyed_members π t key d = member (codes "key") (shown_key_or_null key) (member (codes "lines") (lines_data π t d) (voters_members π t d))
+
+-- The ballot of a style with this key, and with the key of the election that holds it.
+abbrev pub keyed_ballot : Preference → Data → (holder key : Option Key) → Data → Data
+keyed_ballot π t holder key d = object (member (codes "election") (shown_key_or_null holder) (keyed_members π t key d))
 
 -- The ballot of a style.
-abbrev pub ballot_data : Preference → Data → Data → Data
-ballot_data π t d = keyed_ballot π t (key_of π d) d
+abbrev pub ballot_data : Preference → Data → Placed → Data
+ballot_data π t o = keyed_ballot π t (holder_key π t (role.OfFamily family.Style) o) (key_of π o.value) o.value
 
--- The ballot of the style at this position of the report, or null if there is none.
+-- The ballot of the style at this position, or null if there is none.
 abbrev pub ballot_in : Preference → Data → ℕ → Data
-ballot_in π t i = option_map_or (λ o. ballot_data π t o.value) (slice_get (objects family.Style t) i) null
+ballot_in π t i = option_map_or (ballot_data π t) (slice_get (objects family.Style t) i) null
+
+-- A ballot without its election. Two ballots are compared so: that another election holds a style is told of the style.
+abbrev pub compared_ballot : Preference → Data → Data → Data
+compared_ballot π t d = object (keyed_members π t (key_of π d) d)

@@ -6,7 +6,7 @@ ghost use Rattle.erd_shown.specs.BallotDifferences.{of_style, told_of_both, told
 ghost use Rattle.erd_shown.specs.code.LineLists.{of_place};
 ghost use Rattle.erd_shown.specs.code.Marks.{AreMarks};
 
-use crate::ballots::ballot_text;
+use crate::ballots::compared_text;
 use crate::beside::rows_between;
 use crate::marks::marks_between;
 use crate::pairs::Pair;
@@ -36,7 +36,7 @@ pub struct BallotDifference<'a> {
 /// them.
 ///
 /// Two ballots are the same if they have the same lines in the same order, for the same parties and units, with the same
-/// selections, and if no object that they print has other words in the right report.
+/// selections, and if no object that they print has other words in the right report. The elections that hold them don't count.
 ///
 /// # Errors
 ///
@@ -217,7 +217,7 @@ fn is_same(lines: bool, selections: bool, reworded: bool) -> bool
     lines && selections && !reworded
 }
 
-/// Returns whether the ballots of the styles at two positions have one text.
+/// Returns whether the ballots of the styles at two positions have one text, whichever elections hold them.
 fn has_same_lines(
     alloc: Global,
     left: &Report,
@@ -227,8 +227,8 @@ fn has_same_lines(
 ) -> Result<bool, AllocError>
     ensures { IfOk result (λ same. same ≡ has_same_lines left.now.prefer (view left.now.tree) right.now.prefer (view right.now.tree) one other) }
 {
-    let one = ballot_text(alloc, left, one)?;
-    let other = ballot_text(alloc, right, other)?;
+    let one = compared_text(alloc, left, one)?;
+    let other = compared_text(alloc, right, other)?;
     Ok(is_same_text(one.as_str(), other.as_str()))
 }
 

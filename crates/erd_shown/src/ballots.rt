@@ -1,10 +1,13 @@
 ghost use Rattle.std.specs.Prelude.{◌≡◌, ◌++◌, map, string_bytes, IfOk, OnOk, Some, option_copied, true};
+ghost use Rattle.serde_json.specs.Data.{object as json_object};
 ghost use Rattle.serde_json.specs.View.{view};
 ghost use Rattle.serde_json.specs.Written.{compact_text};
 ghost use Rattle.erd_text.specs.Tokens.{members_tokens, value_tokens};
 ghost use Rattle.erd_check.specs.Values.{entries_at};
 ghost use Rattle.erd_meaning.specs.Keys.{has_keys};
-ghost use Rattle.erd_shown.specs.Ballots.{ballot_in, listed_members, keyed_ballot, line_data, lines_data, lines_of, thing_at, voters_members, what_members};
+ghost use Rattle.erd_shown.specs.BallotDifferences.{compared_in};
+ghost use Rattle.erd_shown.specs.Ballots.{ballot_in, keyed_ballot, keyed_members, line_data, lines_data, lines_of};
+ghost use Rattle.erd_shown.specs.Ballots.{listed_members, thing_at, voters_members, what_members};
 ghost use Rattle.erd_shown.specs.KeyData.{array_of, shown_name};
 ghost use Rattle.erd_shown.specs.Shown.{keys_data};
 ghost use Rattle.erd_shown.specs.code.LentNames.{lent};
@@ -17,18 +20,20 @@ use crate::lines::{Line, push_content};
 use crate::listed::{lists_selections, names_on};
 use crate::lookups::key_named;
 use crate::names::{write_count, write_name};
+use crate::objects::holder;
 use crate::references::write_reference_set;
 use crate::texts::text_of;
 use erd_check::values::{entries_at, text_at};
 use erd_meaning::{Key, Report, SelectionName};
-use erd_tables::Family;
+use erd_tables::{Family, Role};
 use erd_text::Output;
 use serde_json::Value;
 use std::alloc::{AllocError, Global};
 
-/// Returns the ballot of the style at a position of a report, as compact JSON: its key, its lines in their order, and the
-/// parties and units whose voters get it. A line has how many headers stand around it, what it is, whether the ballot lists
-/// selections for it, and their names: all in rising order if it lists none. Returns `null` if there is no such style.
+/// Returns the ballot of the style at a position of a report, as compact JSON: the key of the election that holds it, or `null`,
+/// its own key, its lines in their order, and the parties and units whose voters get it. A line has how many headers stand around
+/// it, what it is, whether the ballot lists selections for it, and their names: all in rising order if it lists none. Returns
+/// `null` if there is no such style.
 ///
 /// # Errors
 ///
@@ -55,6 +60,55 @@ fn write_ballot(
 ) -> Result<(), AllocError>
     ensures { OnOk result (out.new ≡ out.old ++ value_tokens (ballot_in report.now.prefer (view report.now.tree) position)) }
 {
+    let election = holder(report, Role::OfFamily(Family::Style), position);
+    let key = report.key_at(Family::Style, position);
+    match report.object(Family::Style, position) {
+        Some(style) => write_held(alloc, report, election, key, style, out),
+        None => out.null(),
+    }
+}
+
+/// Writes the ballot of a style with this key, which the election with the key `election` holds.
+fn write_held(
+    alloc: Global,
+    report: &Report,
+    election: Option<&Key>,
+    key: Option<&Key>,
+    style: &Value,
+    out: &mut Output,
+) -> Result<(), AllocError>
+    ensures { OnOk result (out.new ≡ out.old ++ value_tokens
+        (keyed_ballot report.now.prefer (view report.now.tree) (option_copied election.entry) (option_copied key.entry) (view style.now))) }
+{
+    out.begin_object()?;
+    out.key("election")?;
+    write_key_or_null(election, out)?;
+    write_keyed(alloc, report, key, style, out)
+}
+
+/// Returns the ballot of the style at a position of a report as ballots are compared: as compact JSON, without its election.
+/// Returns `null` if there is no such style.
+pub(crate) fn compared_text(
+    alloc: Global,
+    report: &Report,
+    position: usize,
+) -> Result<String, AllocError>
+    ensures { IfOk result (λ text. string_bytes text ≡ compact_text (compared_in report.now.prefer (view report.now.tree) position)) }
+{
+    let mut out = Output::new(alloc);
+    write_compared(alloc, report, position, &mut out)?;
+    text_of(out)
+}
+
+/// Writes the ballot of the style at a position of a report without its election, or null if there is no such style.
+fn write_compared(
+    alloc: Global,
+    report: &Report,
+    position: usize,
+    out: &mut Output,
+) -> Result<(), AllocError>
+    ensures { OnOk result (out.new ≡ out.old ++ value_tokens (compared_in report.now.prefer (view report.now.tree) position)) }
+{
     let key = report.key_at(Family::Style, position);
     match report.object(Family::Style, position) {
         Some(style) => write_style(alloc, report, key, style, out),
@@ -62,7 +116,7 @@ fn write_ballot(
     }
 }
 
-/// Writes the ballot of a style with this key.
+/// Writes the ballot of a style with this key, without its election.
 fn write_style(
     alloc: Global,
     report: &Report,
@@ -71,9 +125,23 @@ fn write_style(
     out: &mut Output,
 ) -> Result<(), AllocError>
     ensures { OnOk result (out.new ≡ out.old ++ value_tokens
-        (keyed_ballot report.now.prefer (view report.now.tree) (option_copied key.entry) (view style.now))) }
+        (json_object (keyed_members report.now.prefer (view report.now.tree) (option_copied key.entry) (view style.now)))) }
 {
     out.begin_object()?;
+    write_keyed(alloc, report, key, style, out)
+}
+
+/// Writes the key and the lines of the ballot of a style, which voters get it, and the end of the object.
+fn write_keyed(
+    alloc: Global,
+    report: &Report,
+    key: Option<&Key>,
+    style: &Value,
+    out: &mut Output,
+) -> Result<(), AllocError>
+    ensures { OnOk result (out.new ≡ out.old ++ members_tokens
+        (keyed_members report.now.prefer (view report.now.tree) (option_copied key.entry) (view style.now))) }
+{
     out.key("key")?;
     write_key_or_null(key, out)?;
     out.key("lines")?;

@@ -3,7 +3,7 @@ ghost use Rattle.std.specs.Ordering.{eq_by_cmp};
 ghost use Rattle.erd_shown.specs.Partners.{partners};
 ghost use Rattle.erd_shown.specs.Rows.{AreRows};
 
-use crate::numbers::numbered;
+use crate::numbered_things::numbered;
 use crate::partners::partners_of;
 use crate::rows::{Row, rows_of};
 use std::alloc::{AllocError, Global};

@@ -40,7 +40,7 @@ pub fn same_ballots_tell()
 {}
 
 /// The law that equal meanings give equal ballots. In two accepted reports that mean the same, each under its own preference, two
-/// styles with one key have one ballot, and
+/// styles with one key have one ballot, which is told with one election, and
 /// [`differing_ballots`](crate::ballot_differences::differing_ballots) returns no style. The function does nothing.
 pub fn meanings_tell()
     ensures law { MeaningsTell }

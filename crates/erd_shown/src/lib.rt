@@ -24,7 +24,7 @@ mod marks;
 mod members;
 mod named;
 mod names;
-mod numbers;
+mod numbered_things;
 mod objects;
 mod pairs;
 mod partners;

@@ -115,7 +115,7 @@ pub(crate) fn value_at<'a>(
 }
 
 /// Returns the key of the election that holds the object with a role at a position, if there is one with a key.
-fn holder<'a>(report: &'a Report, role: Role, position: usize) -> Option<&'a Key>
+pub(crate) fn holder<'a>(report: &'a Report, role: Role, position: usize) -> Option<&'a Key>
     ensures { (o : Placed) → placed_in (view report.now.tree) role position ≡ Some o → option_copied result ≡ holder_key report.now.prefer
         (view report.now.tree) role o }
 {

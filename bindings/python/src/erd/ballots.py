@@ -87,6 +87,9 @@ class Ballot:
     parties: Tuple[Key, ...]
     units: Tuple[Key, ...]
 
+    election: Optional[Key]
+    """The key of the Election that holds its BallotStyle, if that has one."""
+
 
 @dataclass(frozen=True)
 class OneBallot:
@@ -228,7 +231,8 @@ def ballot_of(data: Optional[dict]) -> Optional[Ballot]:
     """Returns the ballot that the library's JSON describes, if there is one."""
     if data is None:
         return None
-    return Ballot(key_of(data['key']), tuple(map(ballot_line_of, data['lines'])), keys_of(data['parties']), keys_of(data['units']))
+    lines = tuple(map(ballot_line_of, data['lines']))
+    return Ballot(key_of(data['key']), lines, keys_of(data['parties']), keys_of(data['units']), key_of(data['election']))
 
 
 def ballot_difference_of(data: dict) -> BallotDifference:

@@ -1,7 +1,7 @@
 -- In reports that mean the same, two styles with one key have one ballot.
 use Rattle.erd_shown.proofs.Common.{◌≡◌, ℕ, false, List, [], map, Some, None, Option, codes, option_and_then, option_map, option_map_or}
 use Rattle.erd_shown.proofs.Common.{bytes_eq, sym, refl, ap, ap₂, ◌∙◌, subst, fun_ext, In, contains_from_In, has_identifier, no_identity_fault}
-use Rattle.erd_shown.proofs.Common.{no_shape_fault, compact_text, Data, array, object, no_items, item, member, no_members, get, get_member}
+use Rattle.erd_shown.proofs.Common.{no_shape_fault, compact_text, Data, null, array, object, no_items, item, member, no_members, get, get_member}
 use Rattle.erd_shown.proofs.Common.{entries_of, entries_at, Class, class, Family, family, role, role_of_class, class_of_object, Object, ObjectAt}
 use Rattle.erd_shown.proofs.Common.{member_within, Preference, key_of, Placed, objects, placed_record}
 use Rattle.erd_shown.proofs.Common.{Content, no_content, content_of, PlainValue, MemberValue, a_plain, a_content, a_selection_map, member_of_class}
@@ -9,12 +9,12 @@ use Rattle.erd_shown.proofs.Common.{unless_empty}
 use Rattle.erd_meaning.proofs.Common.{map-map}
 use Rattle.erd_shown.specs.BallotLaws.{IsOneBallot}
 use Rattle.erd_shown.specs.BallotWords.{printed_selections}
-use Rattle.erd_shown.specs.Ballots.{lines_data, lines_of}
+use Rattle.erd_shown.specs.Ballots.{ballot_data, lines_data, lines_of}
 use Rattle.erd_shown.specs.KeyData.{array_of, shown_key_or_null}
 use Rattle.erd_shown.specs.Laws.{IsTaken}
 use Rattle.erd_shown.specs.Lines.{content_lines}
-use Rattle.erd_shown.specs.Shown.{keys_data, member_data}
-use Rattle.erd_shown.proofs.told.Laws.{Taken, members_tell, taken}
+use Rattle.erd_shown.specs.Shown.{holder_key, keys_data, member_data, object_in_class}
+use Rattle.erd_shown.proofs.told.Laws.{Taken, members_tell, objects_tell, taken}
 use Rattle.erd_shown.proofs.alike.Objects.{AreAlike, found_here, member_in, member_meant, twin}
 use Rattle.erd_shown.proofs.alike.Reworded.{ballot_not_reworded}
 use Rattle.erd_shown.proofs.alike.Selections.{chosen_alike, chosen_by}
@@ -148,6 +148,23 @@ module _ (π ρ : Preference) (t u : Data) (alike : AreAlike π ρ t u) (o p : P
   units_same =
       sym (held_keys π t family.Unit (get (codes "GpUnitIds") o.value)) ∙ ap data_or_none (data_same (codes "GpUnitIds") refl)
       ∙ held_keys ρ u family.Unit (get (codes "GpUnitIds") p.value)
+
+  -- the key of the election, as the records of the two styles have it
+  holder_same : shown_key_or_null (holder_key π t (role.OfFamily family.Style) o) ≡ shown_key_or_null (holder_key ρ u (role.OfFamily family.Style) p)
+  holder_same =
+      let r = role.OfFamily family.Style in
+      let mine = ap (λ c. option_map_or (object_in_class π t (holder_key π t r o) o.value) c null) (of_class π t alike.left o i) in
+      let its = ap (λ c. option_map_or (object_in_class ρ u (holder_key ρ u r p) p.value) c null) (of_class ρ u alike.right p j) in
+      let told : object_in_class π t (holder_key π t r o) o.value class.BallotStyle ≡ object_in_class ρ u (holder_key ρ u r p) p.value class.BallotStyle =
+      sym mine
+      ∙ (objects_tell π ρ t u r o p alike.left alike.right (contains_from_In o (objects family.Style t) i) (contains_from_In p (objects family.Style u) j)).1
+      records
+      ∙ its in
+      cc
+
+  pub told_alike : ballot_data π t o ≡ ballot_data ρ u p
+  told_alike = λ x. object (member (codes "election") (holder_same x) (member (codes "key") (shown_key_or_null (key x))
+      (member (codes "lines") (lines_same x) (member (codes "parties") (parties_same x) (member (codes "units") (units_same x) no_members)))))
 
   pub one_ballot : IsOneBallot π t o.value ρ u p.value
   one_ballot = (

@@ -9,11 +9,11 @@ use Rattle.erd_shown.proofs.Common.{null, family, Preference, key_of, rising_key
 unfoldable use Rattle.erd_shown.proofs.Common.{IsDistinct}
 use Rattle.std.specs.Cmp.{IsEquivalence}
 use Rattle.erd_meaning.proofs.Common.{map-map}
-use Rattle.erd_shown.specs.BallotDifferences.{AreBallotDifferences, StyleFound, has_same_lines, has_same_selections, is_one_key, is_reworded_at}
-use Rattle.erd_shown.specs.BallotDifferences.{is_same_ballot, style_keys, told_of_both}
+use Rattle.erd_shown.specs.BallotDifferences.{AreBallotDifferences, StyleFound, compared_in, has_same_lines, has_same_selections}
+use Rattle.erd_shown.specs.BallotDifferences.{is_one_key, is_reworded_at, is_same_ballot, style_keys, told_of_both}
 use Rattle.erd_shown.specs.BallotLaws.{IsDifferingStyle, IsOneBallot, MeaningsTell, SameBallotsTell}
 use Rattle.erd_shown.specs.BallotWords.{printed_selections, selections_in}
-use Rattle.erd_shown.specs.Ballots.{ballot_data, ballot_in}
+use Rattle.erd_shown.specs.Ballots.{compared_ballot}
 use Rattle.erd_shown.specs.Partners.{is_same_occurrence, occurrences, partners, place_from}
 use Rattle.erd_shown.specs.Reworded.{is_ballot_reworded}
 use Rattle.erd_shown.specs.RowData.{style_in}
@@ -27,7 +27,7 @@ use Rattle.erd_shown.proofs.fit.FitMembers.{fitting_whole}
 use Rattle.erd_shown.proofs.told.JsonSets.{itself}
 use Rattle.erd_shown.proofs.told.Sets.{one_order}
 use Rattle.erd_shown.proofs.alike.Objects.{AreAlike, turned, twin}
-use Rattle.erd_shown.proofs.alike.Ballots.{one_ballot}
+use Rattle.erd_shown.proofs.alike.Ballots.{one_ballot, told_alike}
 
 -- ---- the test of two ballots
 
@@ -37,11 +37,11 @@ there f z None d e = cc
 there f z (Some o) d e = let same : o.value ≡ d = cc in ap f same
 
 module _ (π ρ : Preference) (t u d e : Data) (i j : ℕ) (one : style_in t i ≡ Some d) (other : style_in u j ≡ Some e) where
-  ballot_left : ballot_in π t i ≡ ballot_data π t d
-  ballot_left = there (ballot_data π t) null (slice_get (objects family.Style t) i) d one
+  ballot_left : compared_in π t i ≡ compared_ballot π t d
+  ballot_left = there (compared_ballot π t) null (slice_get (objects family.Style t) i) d one
 
-  ballot_right : ballot_in ρ u j ≡ ballot_data ρ u e
-  ballot_right = there (ballot_data ρ u) null (slice_get (objects family.Style u) j) e other
+  ballot_right : compared_in ρ u j ≡ compared_ballot ρ u e
+  ballot_right = there (compared_ballot ρ u) null (slice_get (objects family.Style u) j) e other
 
   words_left : selections_in π t i ≡ printed_selections π t d
   words_left = there (printed_selections π t) null (slice_get (objects family.Style t) i) d one
@@ -63,11 +63,11 @@ module _ (π ρ : Preference) (t u d e : Data) (i j : ℕ) (one : style_in t i �
 
   one_is_same : IsOneBallot π t d ρ u e → is_same_ballot π t ρ u i j ≡ true
   one_is_same h =
-      let ballots : ballot_in π t i ≡ ballot_in ρ u j = ballot_left ∙ h.0 ∙ sym ballot_right in
+      let ballots : compared_in π t i ≡ compared_in ρ u j = ballot_left ∙ h.0 ∙ sym ballot_right in
       let words : compact_text (selections_in π t i) ≡ compact_text (selections_in ρ u j) =
       ap compact_text words_left ∙ h.1 ∙ sym (ap compact_text words_right) in
       and_from (has_same_lines π t ρ u i j) _
-      (subst (λ x. is_same_json (ballot_in π t i) x ≡ true) ballots (itself (ballot_in π t i) (fitting_whole (ballot_in π t i) (ballot_sound π t i).1)))
+      (subst (λ x. is_same_json (compared_in π t i) x ≡ true) ballots (itself (compared_in π t i) (fitting_whole (compared_in π t i) (ballot_sound π t i).1)))
       (and_from (has_same_selections π t ρ u i j) _
       (subst (λ x. bytes_eq (compact_text (selections_in π t i)) x ≡ true) words (text_itself (compact_text (selections_in π t i))))
       (ap not (reworded_left ∙ h.2)))
@@ -199,6 +199,9 @@ module _ (π ρ : Preference) (t u : Data) (alike : AreAlike π ρ t u) where
 pub meanings_told : MeaningsTell
 meanings_told π ρ t u left right same =
     let alike : AreAlike π ρ t u = record { left = left; right = right; same = same } in (
-      λ o p i j key. one_ballot π ρ t u alike o p (In-from_contains o (objects family.Style t) i) (In-from_contains p (objects family.Style u) j) key,
+      λ o p i j key. (
+        one_ballot π ρ t u alike o p (In-from_contains o (objects family.Style t) i) (In-from_contains p (objects family.Style u) j) key,
+        told_alike π ρ t u alike o p (In-from_contains o (objects family.Style t) i) (In-from_contains p (objects family.Style u) j) key,
+      ),
       none_told π ρ t u alike,
     )

@@ -65,11 +65,11 @@ const STYLE: &str = concat!(
     r#""selections":[["ElectionResults.CandidateSelection",[["local-level","","K1"]],false,null,null,null]]}]}}"#,
 );
 
-// The ballot of the style: its contest, with the selection that it lists, and the unit whose voters get it.
+// The ballot of the style: its election, its contest, with the selection that it lists, and the unit whose voters get it.
 const BALLOT_LINES: &str = concat!(
-    r#"{"key":["local-level","","B1"],"lines":[{"depth":0,"listed":true,"selections":[["ElectionResults.CandidateSelection","#,
-    r#"[["local-level","","K1"]],false,null,null,null]],"what":["contest",["local-level","","C1"]]}],"parties":[],"units":[["fips","","#,
-    r#""20"]]}"#,
+    r#"{"election":["local-level","","E1"],"key":["local-level","","B1"],"lines":[{"depth":0,"listed":true,"#,
+    r#""selections":[["ElectionResults.CandidateSelection",[["local-level","","K1"]],false,null,null,null]],"#,
+    r#""what":["contest",["local-level","","C1"]]}],"parties":[],"units":[["fips","","20"]]}"#,
 );
 
 // The heads of the ballots: one style, with one line.

@@ -1,20 +1,15 @@
-use Rattle.erd_text.proofs.Common.{codes, view}
+use Rattle.erd_text.proofs.Common.{view}
 use Rattle.std.proofs.lemmas.Result.{on_ok_weaker}
 use Rattle.std.specs.Option.{option_copied}
-use Rattle.erd_shown.proofs.Written.{two_then}
-use Rattle.erd_shown.specs.Ballots.{lines_data, voters_members}
-use Rattle.erd_shown.specs.KeyData.{shown_key_or_null}
+use Rattle.erd_shown.proofs.MembersWritten.{object_then}
+use Rattle.erd_shown.specs.Ballots.{keyed_members}
 use Rattle.erd_shown.proofs.ballots.write_style.Goals as goal
 
 pub returns : goal.returns
 returns c =
-    let π = c.args.report.now.prefer in
-    let t = view c.args.report.now.tree in
-    let d = view c.args.style.now in
-    on_ok_weaker c.write_voters.result
+    on_ok_weaker c.write_keyed.result
     (λ last.
-    two_then c.args.out.now c.begin_object.new.self c.key.new.self c.write_key_or_null.new.out c.key-2.new.self c.write_lines_of.new.out c.write_voters.new.out
-    (codes "key") (codes "lines")
-    (shown_key_or_null (option_copied c.args.key)) (lines_data π t d) (voters_members π t d)
-    c.in_ok-begin_object.ensures c.in_ok-key.ensures c.in_ok-write_key_or_null.ensures c.in_ok-key-2.ensures c.in_ok-write_lines_of.ensures last)
-    c.write_voters.ensures
+    object_then c.args.out.now c.begin_object.new.self c.write_keyed.new.out
+    (keyed_members c.args.report.now.prefer (view c.args.report.now.tree) (option_copied c.args.key) (view c.args.style.now))
+    c.in_ok-begin_object.ensures last)
+    c.write_keyed.ensures

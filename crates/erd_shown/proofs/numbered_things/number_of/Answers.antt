@@ -2,7 +2,7 @@ use Rattle.std.proofs.Common.{sym, ◌∙◌}
 use Rattle.std.specs.Ordering.{eq_by_cmp}
 use Rattle.std.proofs.lemmas.Cmp.{eq_by_cmp_equiv}
 use Rattle.erd_shown.proofs.NumberLists.{gets_number}
-use Rattle.erd_shown.proofs.numbers.number_of.Goals as goal
+use Rattle.erd_shown.proofs.numbered_things.number_of.Goals as goal
 
 pub returns-in_ok-insert-in-None : goal.returns-in_ok-insert-in-None
 returns-in_ok-insert-in-None g c =

@@ -2,7 +2,7 @@ use Rattle.std.proofs.Common.{◌+◌, ◌∷◌, drop, sym, ap, ◌∙◌}
 use Rattle.std.proofs.lemmas.List.{drop_all, drop_more}
 use Rattle.std.specs.Ordering.{eq_by_cmp}
 use Rattle.erd_shown.proofs.NumberLists.{numbered_all, numbered_none, numbered_one}
-use Rattle.erd_shown.proofs.numbers.numbers_of.Goals as goal
+use Rattle.erd_shown.proofs.numbered_things.numbers_of.Goals as goal
 
 pub loop-thing-init : goal.loop-thing-init
 loop-thing-init g c =

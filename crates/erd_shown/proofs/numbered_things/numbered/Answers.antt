@@ -3,7 +3,7 @@ use Rattle.std.specs.Ordering.{eq_by_cmp}
 use Rattle.std.proofs.lemmas.Cmp.{eq_by_cmp_equiv}
 use Rattle.erd_shown.specs.code.NumbersGiven.{AreAllNumbered}
 use Rattle.erd_shown.proofs.NumberLists.{both_numbered}
-use Rattle.erd_shown.proofs.numbers.numbered.Goals as goal
+use Rattle.erd_shown.proofs.numbered_things.numbered.Goals as goal
 
 pub returns : goal.returns
 returns g c =

@@ -1,6 +1,6 @@
 use Rattle.std.specs.Ordering.{eq_by_cmp}
 use Rattle.erd_shown.proofs.NumberLists.{HaveNumbers}
-use Rattle.erd_shown.proofs.numbers.numbers_of.Given as goal
+use Rattle.erd_shown.proofs.numbered_things.numbers_of.Given as goal
 
 abbrev pub invariant-loop-thing : goal.invariant-loop-thing
 invariant-loop-thing g l =
