@@ -3,8 +3,11 @@
 import dataclasses
 import doctest
 import importlib
+import inspect
 import json
+import pkgutil
 import threading
+import typing
 
 import pytest
 
@@ -20,6 +23,19 @@ def test_version(top):
 def test_each_name_that_is_handed_on_is_there(name):
     module = importlib.import_module(name)
     assert [it for it in module.__all__ if not hasattr(module, it)] == []
+
+
+def modules():
+    """The modules of the package."""
+    return [erd, *(importlib.import_module(it.name) for it in pkgutil.walk_packages(erd.__path__, 'erd.'))]
+
+
+@pytest.mark.parametrize('module', modules(), ids=lambda it: it.__name__)
+def test_annotations_name_what_is_there(module):
+    for it in vars(module).values():
+        if getattr(it, '__module__', None) == module.__name__ and (inspect.isclass(it) or inspect.isfunction(it)):
+            for one in (it, *filter(inspect.isfunction, vars(it).values() if inspect.isclass(it) else ())):
+                typing.get_type_hints(one)
 
 
 def test_examples_in_the_comments():

@@ -29,7 +29,7 @@ from __future__ import annotations
 import json
 import os
 import warnings
-from typing import Optional, TypeVar, Union
+from typing import Optional, Tuple, TypeVar, Union
 
 from .ballot_words import ObjectWords, SelectionWords, WordList, words_of
 from .ballots import (Ballot, BallotDifference, BallotDifferences, BallotHead, BallotLine, BallotRow, Ballots, BallotsBeside, OneBallot,
