@@ -8,6 +8,8 @@ for tool in prlimit timeout python3; do
     command -v "$tool" > /dev/null || { echo "skipped the recipe for a service: there is no $tool"; counts; exit; }
 done
 export ERD=$PWD/erd
+mkdir "$work/temporary"
+export TMPDIR=$work/temporary
 one=examples/one-unit.json
 
 # confined NAME STATUS WORD ..: a run ends with this status
@@ -25,6 +27,9 @@ with_or_without() {
     confined "$1: the canonical form" 0 canon "$one"
     same_bytes "$1: its bytes" "$work/out" examples/one-unit.canonical.json
     confined "$1: the same" 0 compare --prefer local-level examples/county.vendor-a.json examples/county.vendor-b.json
+    confined "$1: a code that two units share" 1 check "$work/fips.json"
+    confined "$1: under a preference" 0 check --prefer local-level "$work/fips.json"
+    confined "$1: two under a preference" 0 compare --prefer local-level "$work/fips.json" "$work/fips.json"
     confined "$1: a difference" 1 compare examples/county.vendor-a.json "$one"
     confined "$1: not JSON" 2 check README.md
     confined "$1: a file that is missing" 3 check "$work/nosuch"
@@ -59,6 +64,11 @@ for _ in range(120):
     deep = [deep]
 report = json.loads(pathlib.Path('examples/one-unit.json').read_text())
 work.joinpath('deep.json').write_text(json.dumps({**report, 'Extra': deep}))
+# Two units have numbers of their own, and the code of the county both.
+unit, = report['GpUnit']
+code = {'@type': 'ElectionResults.ExternalIdentifier', 'Type': 'fips', 'Value': '1'}
+units = [{**unit, '@id': name, 'ExternalIdentifier': [{**unit['ExternalIdentifier'][0], 'Value': name}, code]} for name in (unit['@id'], 'u8')]
+work.joinpath('fips.json').write_text(json.dumps({**report, 'GpUnit': units}))
 END
 printf '#!/bin/sh\nwhile :; do :; done\n' > "$work/spins"
 # A port of this machine on which somebody listens, until the end of this script.
@@ -90,6 +100,25 @@ chmod +x "$work/spins" "$work/writes" "$work/complains"
 
 export SANDBOX=no
 with_or_without 'limits alone'
+# What is said without a command, a program or a tool.
+for words in '' check 'compare README.md' "check --prefer= $one"; do
+    confined "usage: $words" 3 $words
+    equal "its words: $words" "$(cat "$work/err")" $'confined.sh check|canon [--prefer TYPE] FILE\nconfined.sh compare [--prefer TYPE] LEFT RIGHT'
+done
+ERD=nosuch confined 'no program' 3 check "$one"
+equal 'no program: its words' "$(cat "$work/err")" 'confined.sh: there is no erd'
+mkdir "$work/few"
+for tool in timeout head mktemp sed; do
+    ln -s "$(command -v "$tool")" "$work/few"
+done
+PATH=$work/few confined 'no tool' 3 check "$one"
+equal 'no tool: its words' "$(cat "$work/err")" 'confined.sh: there is no prlimit'
+TMPDIR=/nosuch confined 'no folder for a copy' 3 check <(cat "$one")
+equal 'no folder for a copy: its words' "$(tail -n 1 "$work/err")" 'confined.sh: no folder for a copy can be made'
+run setsid -w contrib/confined.sh check /dev/tty
+expect 'a device that cannot be read' 3
+equal 'a device that cannot be read: its words' "$(cat "$work/err")" 'read failed'
+prefer=local-level confined 'a variable of the environment is no preference' 1 check "$work/fips.json"
 # What reaches nothing in a room does reach something without one.
 { head -n 1 "$work/writes"; sed -n '/dev\/tcp/,$p' "$work/writes"; } > "$work/connects"
 chmod +x "$work/connects"
@@ -141,7 +170,7 @@ chmod +x "$work/bin/systemd-run"
     block docs/LIMITS.md sh 2 | sed "s|/usr/share/doc/erd/contrib|$PWD/contrib|; s|upload\.json|\"\$UPLOAD\"|; s|lines\.txt|\"\$LINES\"|"
     echo 'exit "$status"'
 } > "$work/recipe"
-said 'the recipe for systemd is there' "$(grep -q 'systemd-run .*' "$work/recipe" && grep -q 'confined.sh check "$UPLOAD" > "$LINES"' "$work/recipe" || cat "$work/recipe")"
+said 'the recipe for systemd is there' "$(grep -q 'systemd-run .*' "$work/recipe" && grep -q 'confined.sh check "$UPLOAD" > "$LINES"' "$work/recipe" || last_words "$work/recipe")"
 sed 's/pre-election/certified/' "$one" > "$work/refused.json"
 for row in "by-itself $one 0" "by-itself $work/refused.json 1" 'by-itself README.md 2' 'by-itself nosuch 3' "killed $one 3" "signal $one 3" \
     "not-begun $one 3"; do
@@ -149,6 +178,7 @@ for row in "by-itself $one 0" "by-itself $work/refused.json 1" 'by-itself README
     run env PATH="$work/bin:$PATH" SANDBOX=no ENDS="$ends" UPLOAD="$upload" LINES="$work/lines" sh "$work/recipe"
     said "the recipe for systemd: $ends, $(basename "$upload")" "$([ "$status" -eq "$wanted" ] || echo "status $status, not $wanted")"
 done
+said 'nothing is left of what it kept for a time' "$(ls -A "$work/temporary")"
 run env PATH="$work/bin:$PATH" SANDBOX=no ENDS=by-itself OUTPUT=5 UPLOAD="$one" LINES="$work/lines" sh "$work/recipe"
 said 'the recipe for systemd: more output than it may have' "$([ "$status" -eq 3 ] || echo "status $status")"
 counts

@@ -63,6 +63,8 @@ for jobs in 1 2 3 7; do
     expect_text "every file is judged, $jobs at a time" 2 \
         "$folder/d.json"$'\n  /Odd^[/@id: carried identity\n  /Status: not pre-election\n'"$folder/e.json"$'\n  not JSON'
 done
+run env JOBS=1 contrib/check-folder.sh "$folder/e.json" "$folder/d.json" "$folder/a.json"
+expect 'the highest status, with a lower one behind it' 2
 run contrib/check-folder.sh "$folder/a.json" "$folder/nosuch.json"
 expect_text 'a file that is not there' 3 "$folder/nosuch.json"$'\n  cannot open\n  '"$folder/nosuch.json"
 mkdir "$work/broken"
@@ -79,7 +81,7 @@ expect_text 'a folder without definitions' 3 ''
 for words in '' -- '--prefer' '--prefer local-level' '--prefer=' '--prefer= '"$folder" '-x' '--prefr local-level '"$folder"; do
     run contrib/check-folder.sh $words
     expect_text "usage: check-folder.sh $words" 3 ''
-    said "it is told: check-folder.sh $words" "$(grep -q '^usage: check-folder\.sh \[--prefer TYPE\]' "$work/err" || cat "$work/err")"
+    said "it is told: check-folder.sh $words" "$(grep -q '^usage: check-folder\.sh \[--prefer TYPE\]' "$work/err" || last_words "$work/err")"
 done
 run contrib/check-folder.sh --prefer '' "$folder"
 expect_text 'an empty preference' 3 ''
@@ -88,6 +90,8 @@ jq '.GpUnit += [.GpUnit[0] | .["@id"] = "u8" | .ExternalIdentifier[0].Value = "U
     examples/one-unit.json > "$work/fips.json"
 run contrib/check-folder.sh "$work/fips.json"
 expect 'units that share a FIPS code' 1
+run env prefer=local-level contrib/check-folder.sh "$work/fips.json"
+expect 'a variable of the environment is no preference' 1
 for words in '--prefer local-level' '--prefer=local-level' '--prefer local-level --'; do
     run contrib/check-folder.sh $words "$work/fips.json"
     expect_text "the same under a preference: $words" 0 ''
@@ -122,7 +126,13 @@ expect 'repeated names, and a file that is not JSON' 2
 run contrib/repeated-names.py "$work/nosuch.json"
 expect 'repeated names of a file that is not there' 3
 run contrib/repeated-names.py
-expect 'repeated names without a file' 3
+expect_text 'repeated names without a file' 3 ''
+equal 'repeated names without a file: its words' "$(sed -n 3p "$work/err")" 'usage: repeated-names.py FILE ..'
+for word in --help -h; do
+    run contrib/repeated-names.py $word
+    expect "repeated names: $word" 0
+    equal "repeated names: $word: its words" "$(sed -n 3p "$work/out")" 'usage: repeated-names.py FILE ..'
+done
 
 # ---- the statuses of these scripts, in each state of the streams
 for script in check-folder repeated-names git-textconv; do
@@ -138,12 +148,32 @@ for script in check-folder git-textconv; do
     equal "$script.sh with a closed output: its words" "$(cat "$work/err")" "$script.sh: write failed"
 done
 
-# ---- a worker that is lost
+# ---- a program that is lost, and a worker
+printf '#!/bin/sh\nkill -9 $$\n' > "$work/bin/ends"
+chmod +x "$work/bin/ends"
+run env ERD=ends contrib/check-folder.sh "$folder/a.json"
+expect 'a program that is lost' 3
+equal 'its file, and how it ended' "$(sed -n '1p; $p' "$work/out")" "$folder/a.json"$'\n  erd ended with status 137'
 printf '#!/bin/sh\nkill -9 "$(ps -o ppid= "$PPID")" "$PPID"\n' > "$work/bin/kills"
 chmod +x "$work/bin/kills"
 run env ERD=kills contrib/check-folder.sh "$folder/a.json"
 expect_text 'a worker that is lost' 3 ''
 equal 'it is told' "$(tail -n 1 "$work/err")" 'check-folder.sh: some files were not judged'
+
+# ---- a run that is interrupted
+printf '#!/bin/sh\nexec sleep 2\n' > "$work/bin/waits"
+chmod +x "$work/bin/waits"
+ERD=waits contrib/check-folder.sh "$folder/a.json" > "$work/out" 2> "$work/err" &
+sleep 0.5
+kill -TERM $!
+wait $!
+status=$?
+expect_text 'a run that is interrupted' 130 ''
+
+# ---- where there is no folder for what is found
+run env TMPDIR=/nosuch contrib/check-folder.sh "$folder/a.json"
+expect_text 'check-folder.sh without a folder for its work' 3 ''
+equal 'check-folder.sh without a folder for its work: its words' "$(tail -n 1 "$work/err")" 'check-folder.sh: no folder for what is found can be made'
 
 # ---- where there is no program
 for script in check-folder git-textconv; do
@@ -153,6 +183,11 @@ for script in check-folder git-textconv; do
 done
 
 # ---- git-textconv.sh
+for words in '' "$folder/a.json $folder/d.json"; do
+    run contrib/git-textconv.sh $words
+    expect_text "git-textconv.sh of ${words:-nothing}" 3 ''
+    equal "git-textconv.sh of ${words:-nothing}: its words" "$(cat "$work/err")" 'git-textconv.sh: one FILE is needed'
+done
 clone=$work/clone
 git init -q "$clone"
 cp -r contrib "$clone"
@@ -171,7 +206,7 @@ git add -A
 git commit -qm 'Add the county'
 cp "$top/examples/county.vendor-b.json" ballots/county.json
 said 'the file of another vendor has no difference' "$(changed)"
-said 'git itself shows many' "$([ "$(git diff --no-textconv | grep -c '^[-+]')" -gt 1000 ] || git diff --no-textconv --stat)"
+said 'git itself shows many' "$([ "$(git diff --no-textconv | grep -c '^[-+]')" -gt 1000 ] || echo "it shows: $(git diff --no-textconv --stat)")"
 sed -i 's/Ingrith Sablewood/Ingrid Sablewood/' ballots/county.json
 equal 'a changed name is one line' "$(changed)" $'-"BallotName": "Ingrith Sablewood",\n+"BallotName": "Ingrid Sablewood",'
 mkdir "$work/tools"
@@ -198,7 +233,7 @@ control=$(PATH=$work/bin:$work/tools git diff -U0 | grep -c '^+.*Ingrith\^? Sabl
 equal 'a control character in a form without Python' "$control" 1
 mv "$work/bin/erd" "$work/bin/away"
 run git diff
-said 'without the program git says so' "$(grep -q 'there is no erd' "$work/err" || cat "$work/out" "$work/err")"
+said 'without the program git says so' "$(grep -q 'there is no erd' "$work/err" || last_words "$work/out" "$work/err")"
 expect 'and ends with a status of its own' 128
 mv "$work/bin/away" "$work/bin/erd"
 git checkout -q ballots
@@ -219,9 +254,9 @@ equal 'the hook says why' "$(cat "$work/err")" \
 git reset -q
 
 # What could not be judged is not refused: the hook ends with 3, which stops git too.
-for program in nosuch /bin/false "$work/ends"; do
-    printf '#!/bin/sh\nkill -9 $$\n' > "$work/ends"
-    chmod +x "$work/ends"
+printf '#!/bin/sh\necho read failed; exit 3\n' > "$work/fails"
+chmod +x "$work/fails"
+for program in nosuch /bin/false "$work/bin/ends" "$work/fails"; do
     cp "$top/examples/small-ballot.json" ballots/unjudged.json
     git add -A
     run env ERD="$program" .git/hooks/pre-commit
@@ -237,6 +272,9 @@ git add -A
 run env TMPDIR=/nosuch .git/hooks/pre-commit
 expect 'the hook without a folder for its work' 3
 equal 'the hook without a folder for its work: its words' "$(tail -n 1 "$work/err")" 'pre-commit: no folder for what is found can be made'
+run env -C "$work/folder" "$clone/.git/hooks/pre-commit"
+expect 'the hook outside a repository' 3
+equal 'the hook outside a repository: its words' "$(tail -n 1 "$work/err")" 'pre-commit: git does not say what is staged'
 blob=$(git rev-parse :ballots/unjudged.json)
 rm -f ".git/objects/${blob%"${blob#??}"}/${blob#??}"
 run .git/hooks/pre-commit
