@@ -38,12 +38,19 @@ PYTEST = (BOUNDED + 'ERD_TOP=$PWD ERD_LIBRARY=$PWD/out/portable/linux-x86_64/lib
           '/usr/bin/python3 -m pytest -q -x -p no:cacheprovider bindings/python/tests/')
 LINES = ("python3 tests/forms/command_lines.py --beside ./erd 'python -m erd' package,python env "
          'ERD_LIBRARY=$PWD/out/portable/linux-x86_64/liberd.so.0 PYTHONPATH=$PWD/bindings/python/src python3 -m erd')
+NAMES = PYTEST + 'test_calls.py -k each_name'
+# repeats.py and contrib/repeated-names.py are the same, so that the tests of each try the other one too.
+REPEATED = 'python3 tests/forms/command_lines.py --command repeated-names "" script python3 bindings/python/src/erd/repeats.py'
+AS_REPEATS = ('rm -rf out/twin; cp -r bindings/python/src out/twin; cp contrib/repeated-names.py out/twin/erd/repeats.py; '
+              + PYTEST.replace('bindings/python/src', 'out/twin') + 'test_calls.py -k repeated')
 STEPS = [BOUNDED + 'python3 tests/prepare/steps.py']
 TABLES = 'python3 tests/pages/tables.py'
 MODULE = 'node tests/forms/javascript_module.mjs'
 COMMAND = 'cp -n out/portable/erd.wasm bindings/js; node tests/forms/javascript_command.mjs bindings/js'
+PACKAGE = 'tests/forms/javascript_package.sh'
 PARTS = [f'node tests/page/{name}.mjs' for name in ('parts', 'lines', 'words', 'shown', 'chosen', 'ballot_words', 'record_words', 'converted',
                                                     'result_told', 'ballots_shown', 'page_told', 'parts_told', 'modules', 'judged')]
+PYTHON_TESTS = ('rows', 'library', 'calls', 'ballots', 'prepare', 'resume', 'suite', 'commands', 'from_xml', 'many')
 # Which parts of the page in a browser concern which of its modules, the last line all others. What a part notices of another module is not asked.
 BROWSED = {
     'overview ballots printed': 'ballot* columns sheets text_changes alignment overview card search',
@@ -56,13 +63,15 @@ BROWSED = {
 # The files, and the commands that try them, the cheapest first.
 AREAS = {
     'contrib/confined.sh': ['tests/program/confined.sh'],
-    'contrib/*.py': ['tests/program/contrib.sh'],
+    'contrib/*.py': ['tests/program/contrib.sh', AS_REPEATS],
     'contrib/*': ['tests/program/contrib.sh'],
-    'bindings/python/src/erd/prepare/*.py': [TABLES, PYTEST + 'test_prepare.py', *STEPS],
-    'bindings/python/src/erd/from_xml/*.py': [TABLES, PYTEST + 'test_from_xml.py'],
-    'bindings/python/src/erd/*.py': [*(PYTEST + f'test_{name}.py' for name in ('calls', 'ballots', 'prepare', 'resume', 'suite', 'commands', 'many')), LINES],
-    'bindings/js/lib/prepare/*.mjs': [TABLES, MODULE, *STEPS],
-    'bindings/js/lib/*.mjs': [MODULE, COMMAND, *PARTS, 'tests/forms/javascript_package.sh'],
+    'bindings/python/src/erd/prepare/*.py': [TABLES, NAMES, PYTEST + 'test_prepare.py', *STEPS],
+    'bindings/python/src/erd/from_xml/*.py': [TABLES, NAMES, PYTEST + 'test_from_xml.py'],
+    'bindings/python/src/erd/repeats.py': [PYTEST + 'test_calls.py', REPEATED, PYTEST + 'test_from_xml.py'],
+    'bindings/python/src/erd/*.py': [*(PYTEST + f'test_{name}.py' for name in PYTHON_TESTS), LINES],
+    'bindings/js/lib/prepare/*.mjs': [TABLES, MODULE, COMMAND, PACKAGE],
+    'bindings/js/lib/*.mjs': [MODULE, COMMAND, *PARTS, PACKAGE],
+    'bindings/js/*.mjs': [MODULE, COMMAND, PACKAGE],
     'web/scripts/from_xml/*.mjs': [TABLES, *(f'node tests/page/{name}.mjs' for name in ('converted', 'shown', 'parts_told')),
                                    'tests/page/page.sh xml_form xml_agree'],
     **{f'web/scripts/{name}.mjs': [*PARTS, f'tests/page/page.sh {parts}'] for parts, names in BROWSED.items() for name in names.split()},
