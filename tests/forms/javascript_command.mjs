@@ -16,12 +16,26 @@ const failures = [];
 let passed = 0;
 let runs = 0;
 
-// What the command writes is kept.
-const { writeSync } = fs;
+// What the command writes is kept. What is named here hinders a read or a write, each once, and a write may take a part of the bytes.
+const { readSync, writeSync } = fs;
 let written = [];
+let hindrances = { read: [], write: [] };
+let mostWritten = Infinity;
+function hindered(way) {
+    const code = hindrances[way].shift();
+    if (code) {
+        throw Object.assign(new Error(code), { code });
+    }
+}
+fs.readSync = (...words) => {
+    hindered('read');
+    return readSync(...words);
+};
 fs.writeSync = (handle, bytes) => {
-    written[handle] += Buffer.from(bytes).toString();
-    return bytes.length;
+    hindered('write');
+    const taken = Buffer.from(bytes).subarray(0, mostWritten);
+    written[handle] += taken.toString();
+    return taken.length;
 };
 syncBuiltinESMExports();
 
@@ -92,6 +106,21 @@ writeFileSync(report, JSON.stringify({ '@type': 'ElectionResults.ElectionReport'
 const faults = ['/Election: wrong number of elections', ...Array.from({ length: 1500 }, (_, at) => `/GpUnit/${at}: wrong kind`)];
 const accepted = join(SUITE, 'canonical-one-unit', 'input.json');
 await tryRun('ballots of a report with many faults', ['ballots', accepted, report], [1, faults.map((line) => `right: ${line}\n`).join(''), '']);
+
+// Pipes that are not ready, the end of a pipe on Windows, and what fails. The file is read at once, and a second read finds its end.
+for (const [name, read, write, wanted] of [
+    ['a pipe that is not ready', ['EAGAIN', 'EAGAIN', '', 'EAGAIN'], [], [0, 'accepted\n', '']],
+    ['the end of a pipe on Windows', ['', 'EOF'], [], [0, 'accepted\n', '']],
+    ['a read that fails', ['', 'EIO'], [], [3, '', 'read failed\n']],
+    ['an output that is not ready', [], ['EAGAIN', 'EAGAIN'], [0, 'accepted\n', '']],
+    ['a write that fails', [], ['EIO'], [3, '', 'write failed\n']],
+]) {
+    hindrances = { read, write };
+    await tryRun(name, ['check', accepted], wanted);
+}
+mostWritten = 4;
+await tryRun('an output that takes a part at a time', ['check', accepted], [0, 'accepted\n', '']);
+mostWritten = Infinity;
 
 // The report on steps tells of a step that was not done.
 writeFileSync(report, '{"Notes":null}');
