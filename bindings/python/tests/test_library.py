@@ -1,5 +1,7 @@
 """How the package deals with the shared library: where it looks for it, what it gives back, and what it does without memory."""
 
+import ctypes
+import re
 from collections import Counter
 
 import pytest
@@ -59,6 +61,30 @@ def test_no_memory_is_an_error(report, monkeypatch, name):
     monkeypatch.setattr(library, 'library', lambda: recorded)
     with pytest.raises(MemoryError, match='^out of memory$'):
         CALLS[name](report)
+
+
+# What stands for each type of the header, and the calls of the header that the package does not use.
+TYPES = {'const void *': ctypes.c_char_p, 'const char *': ctypes.c_char_p, 'char *': ctypes.c_void_p, 'struct erd_list *': ctypes.c_void_p,
+         'size_t': ctypes.c_size_t, 'int': ctypes.c_int, 'enum': ctypes.c_int, 'char **': ctypes.POINTER(ctypes.c_void_p),
+         'size_t *': ctypes.POINTER(ctypes.c_size_t), 'struct erd_piece *': ctypes.POINTER(library.Piece), 'void': None}
+UNUSED = {'erd_check', 'erd_canonical', 'erd_compare', 'erd_check_data', 'erd_compare_data'}
+
+
+def type_of(words):
+    """The type that the words of the header name."""
+    return TYPES['enum' if words.startswith('enum ') else words.strip()]
+
+
+def test_each_call_is_declared_as_in_the_header(top):
+    # A pointer that is taken for an int loses its upper half, on machines where it has one.
+    header = (top / 'bindings' / 'c' / 'erd.h').read_text('utf-8')
+    calls = {name: (result, words) for result, name, words in re.findall(r'^([a-z_ ]+ \*?)(erd_\w+)\(([^)]*)\);', header, re.M)}
+    assert len(calls) > 20 and UNUSED < calls.keys()
+    for name, (result, words) in calls.items():
+        if name not in UNUSED:
+            function = getattr(library.library(), name)
+            wanted = [type_of(re.sub(r'\w+$', '', ' '.join(one.split()))) for one in words.split(',') if words != 'void']
+            assert (name, function.restype, list(function.argtypes)) == (name, type_of(result), wanted)
 
 
 def test_where_the_library_is(tmp_path, monkeypatch):
