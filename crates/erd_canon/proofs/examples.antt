@@ -8,4 +8,3 @@ mod PieceExamples
 mod ListPieceExamples
 mod PrepareExamples
 mod WordPieceExamples
-mod ValuedExamples

@@ -16,6 +16,5 @@ pub(crate) mod pieces;
 mod refusals;
 pub(crate) mod texts;
 mod valued;
-mod valued_inside;
 pub(crate) mod valued_pieces;
 pub(crate) mod word_pieces;
