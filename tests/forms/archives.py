@@ -70,9 +70,11 @@ def is_of_case(name):
 def too_old(path, entries):
     """Which version of the C library a wheel needs, if its name promises that an older one is enough."""
     promised = re.search(r'manylinux_(\d+)_(\d+)_', path.name)
+    if promised is None:
+        return ''
     named = [found for _, place, data in entries if place.endswith('.so.0') for found in re.findall(rb'GLIBC_(\d+)\.(\d+)', data)]
-    needed = [tuple(map(int, one)) for one in named]
-    return '' if promised is None or max(needed) <= tuple(map(int, promised.groups())) else f'GLIBC_{max(needed)}'
+    needed = max(tuple(map(int, one)) for one in named)
+    return '' if needed <= tuple(map(int, promised.groups())) else f'GLIBC_{needed}'
 
 
 def cases(paths, is_writing):
