@@ -11,7 +11,7 @@ from session import EXAMPLES, ROOT, report_of_units
 
 COUNTY = EXAMPLES / 'county.vendor-a.json'
 LONGEST_PAUSE = 1000
-TRIES = 3
+TRIES = 8
 
 # Counts the longest time in milliseconds in which the page did nothing else.
 WATCH = """
