@@ -11,7 +11,9 @@ from session import EXAMPLES, ROOT, report_of_units
 
 COUNTY = EXAMPLES / 'county.vendor-a.json'
 LONGEST_PAUSE = 1000
-TRIES = 8
+TRIES = 3
+# A ratio of two times needs more of them where other work disturbs one of both. One that is too high by itself fails all.
+TRIES_OF_A_RATIO = 8
 
 # Counts the longest time in milliseconds in which the page did nothing else.
 WATCH = """
@@ -104,7 +106,7 @@ def same_pair(session):
     path = report_of_units(session.work / 'pair.json', UNITS_OF_40_MB)
     other = session.file('other.json', path.read_bytes().replace(b'"GeneratedDate": "', b'"GeneratedDate": "3'))
     tries = []
-    while len(tries) < TRIES and (not tries or tries[-1][1] > 1.5 * tries[-1][0]):
+    while len(tries) < TRIES_OF_A_RATIO and (not tries or tries[-1][1] > 1.5 * tries[-1][0]):
         ran = subprocess.run(['node', '--input-type=module', '-e', COMPARE, ROOT.as_uri() + '/', path, other], capture_output=True, check=True)
         session.fresh()
         session.choose(0, path, other)
