@@ -887,11 +887,17 @@ def valued_entries(left, right):
 
 
 def valued_data(difference, sides):
-    """API.md: 'a last member `values`, with what either report has there, under `left` and `right`.' 'A report that has nothing
-    there is left out. If neither has anything, there is no `values`.'"""
-    told = ((name, side.value_at(difference)) for name, side in sides.items())
-    values = {name: value for name, value in told if value is not NOTHING}
-    return {**difference_data(difference), **({'values': values} if values else {})}
+    """API.md: 'An entry has a last member `values`, with `left` and `right`.' 'Entries of `selections` have `values` too'."""
+    data = difference_data(difference)
+    for entry, inside in zip(data.get('selections', []), difference.selections or []):
+        entry.update(values_data(side.value_inside(difference, inside) for side in sides.values()))
+    return {**data, **values_data(side.value_at(difference) for side in sides.values())}
+
+
+def values_data(told):
+    """API.md: 'A report that has nothing there is left out.'"""
+    values = {name: value for name, value in zip(('left', 'right'), told) if value is not NOTHING}
+    return {'values': values} if values else {}
 
 
 # What a report has where a member is absent or means nothing by itself, or an object is not there. A carried member may be null.
@@ -905,6 +911,7 @@ class Shown:
         self.resolved = resolved
         self.objects = {(thing.family, resolved.key_of(thing)): thing for thing in resolved.objects if thing.family in PARTS}
         self.objects['report', None] = Object((), 'report', resolved.report)
+        self.inside = {}
 
     def value_at(self, difference):
         """API.md: 'It is the value of the member, or the record of the object if `how` is not `"member"`.'"""
@@ -918,6 +925,22 @@ class Shown:
             return NOTHING if election is None else election
         return members.get(difference.member, NOTHING)
 
+    def value_inside(self, difference, inside):
+        """API.md: 'what the contests have at that name, with no `election`.'"""
+        selection = self.selections_of(difference.key).get(inside.name)
+        if selection is None:
+            return NOTHING
+        members = shown_members(self.resolved, selection)
+        return {'class': selection['@type'], 'members': members} if inside.member is None else members.get(inside.member, NOTHING)
+
+    def selections_of(self, key):
+        """The selections of the contest with a key, by their names."""
+        if key not in self.inside:
+            contest = self.objects.get(('contest', key))
+            named = contest.value.get('ContestSelection', []) if contest else []
+            self.inside[key] = {selection_name(self.resolved, it): it for it in named}
+        return self.inside[key]
+
 
 def key_of_holder(resolved, thing):
     """The key of the Election that a candidate, a contest or a style stands in, if that has one."""
@@ -927,8 +950,8 @@ def key_of_holder(resolved, thing):
 
 
 def shown_members(resolved, value):
-    """The members of an object that are told. API.md: 'The selections of contests and the content of ballots have no `values`, and are
-    in no record.'"""
+    """The members of an object that are told. API.md: '`ContestSelection` and the content of ballots have no `values`, and are in no
+    record.'"""
     return {name: shown_value(resolved, member, inner) for name, member, inner in members_with_values(value)
             if is_in_record(class_of(value), name, member, inner) and member.kind not in ('Keyed', 'Content')}
 

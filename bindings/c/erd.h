@@ -145,7 +145,11 @@ enum erd_outcome erd_differences_data(const void *left, size_t left_size, const 
  *     {"how":"member",..,"values":{"left":"Mayor","right":"Mayor of Ames"}}
  *
  * in which `values` has the value of the member, or the record of the object if `how` is not "member". A report that has
- * nothing there is left out. The selections of contests and the content of ballots have no `values`. */
+ * nothing there is left out. The member `ContestSelection` and the content of ballots have no `values`.
+ *
+ * An object inside `selections` has such a member `values` too: what the two contests have at the name of the selection. Where the
+ * texts of its values, with those of the objects before it in the same array, have more than `enough_bytes` bytes, `values` is null
+ * in that object and in all behind it. */
 enum erd_outcome erd_differences_values(const void *left, size_t left_size, const void *right, size_t right_size,
                                         const char *prefer, struct erd_piece *piece, char **text, size_t *length);
 

@@ -64,7 +64,7 @@ export interface Difference {
     /**
      * What either report has there: the value of the member; or the record of the object, with its `class`, the key of its `election`
      * and its `members`. Keys stand in place of references. A report that has nothing there is left out. Only `differences` tells
-     * it, and not of the selections of contests or of the content of ballots.
+     * it, and not of the content of ballots. What contests have at their selections is in `selections`.
      */
     values?: { left?: Json; right?: Json };
     /** The line that the program writes for the difference, without its line feed. */
@@ -77,6 +77,12 @@ export interface SelectionDifference {
     how: 'only left' | 'only right' | 'member';
     /** The member in which the two selections with this name differ. Only `member` has it. */
     member?: string;
+    /**
+     * What either contest has there: the value of the member; or the record of the selection, with its `class` and its `members`. Keys
+     * stand in place of references. A contest that has nothing there is left out. It is null from the first selection of a contest on
+     * where the values have more than a megabyte together, or more than is kept at a time if all differences are asked for.
+     */
+    values: { left?: Json; right?: Json } | null;
 }
 
 /**

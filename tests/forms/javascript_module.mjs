@@ -176,7 +176,7 @@ const wholeList = erd.differences(...long2500, { mostDifferences: null });
 equal('all differences', `${wholeList.differences.length} ${wholeList.allDifferences} ${wholeList.more}`, '2500 2500 false');
 equal('their keys', wholeList.differences.every(({ key }, index) => key[2] === `C-${10000 + index}`), true);
 equal('what differs inside each', JSON.stringify([...new Set(wholeList.differences.map(({ selections }) => JSON.stringify(selections)))]),
-    JSON.stringify(['[{"name":["ElectionResults.CandidateSelection",[],false,null,null,["a","","S"]],"how":"member","member":"Note"}]']));
+    JSON.stringify(['[{"name":["ElectionResults.CandidateSelection",[],false,null,null,["a","","S"]],"how":"member","member":"Note","values":{"left":1,"right":2}}]']));
 equal('no values of selections', wholeList.differences.some((difference) => 'values' in difference), false);
 // The text of what differs inside each contest has 600 kB here. Two are more than a megabyte.
 const wide = [1, 2].map((note) => contests(3, note, 'a').replaceAll('"Type":"a"', `"Type":"${'a'.repeat(600_000)}"`));

@@ -13,9 +13,32 @@ import erd_reference  # noqa: E402
 ALL = 2 ** 64 - 1
 
 
+def size_of(value):
+    """How many bytes the text of a value has."""
+    return len(erd_reference.compact_text(value).encode('utf-8'))
+
+
 def bytes_in_selections(data):
-    """How many bytes the text of the differences of selections has."""
-    return len(erd_reference.compact_text(data['selections']).encode('utf-8'))
+    """How many bytes the text of the differences of selections has, without their values."""
+    return size_of(bare(data)['selections'])
+
+
+def bytes_in_values(data):
+    """How many bytes the texts of the values of a difference have."""
+    return sum(map(size_of, data.get('values', {}).values()))
+
+
+def bare(data):
+    """The object of a difference without what the reports have there, and so inside selections."""
+    found = {name: value for name, value in data.items() if name != 'values'}
+    return {**found, 'selections': list(map(bare, found['selections']))} if 'selections' in found else found
+
+
+def values_within(entries, room):
+    """The differences of selections, with null in place of the values from the first ones on that don't fit."""
+    for entry in entries:
+        room -= bytes_in_values(entry) if room >= 0 else 0
+        yield entry if room >= 0 else {**entry, 'values': None}
 
 
 class Listed:
@@ -28,15 +51,17 @@ class Listed:
 
     def told(self, first, enough_bytes, has_values=False):
         """The objects of the entries from the first on. Those inside selections are told as long as their texts fit: behind the first
-        entry whose text doesn't fit, none is."""
+        entry whose text doesn't fit, none is. The values inside one entry are told as long as their texts fit."""
         room = enough_bytes
         for whole in self.data[first:]:
-            data = {name: value for name, value in whole.items() if has_values or name != 'values'}
+            data = dict(whole) if has_values else bare(whole)
             if 'selections' in data:
                 room -= bytes_in_selections(data)
+                inside = data.pop('selections')
                 if room < 0:
                     room = -1
-                    del data['selections']
+                else:
+                    data['selections'] = list(values_within(inside, enough_bytes)) if has_values else inside
             yield data
 
     def piece(self, first, most, enough_bytes, has_values=False):

@@ -22,7 +22,7 @@ sys.path[:0] = [str(ROOT / 'tests' / 'program'), str(ROOT / 'tests' / 'reports')
 sys.dont_write_bytecode = True
 from agrees_with_reference import EXAMPLES, TYPES, edited, types_in, with_elections, written  # noqa: E402
 from by_ctypes import Library  # noqa: E402
-from listed import ALL, bytes_in_selections, erd_reference, listed  # noqa: E402
+from listed import ALL, bytes_in_selections, bytes_in_values, erd_reference, listed  # noqa: E402
 from reports import contest, identifier, label, report, selection, translation, unit  # noqa: E402
 
 CLASSES = ['CandidateSelection', 'BallotMeasureSelection', 'PartySelection']
@@ -151,11 +151,13 @@ def shared_library(folder):
 
 
 def sizes_of(found, dice):
-    """Bounds for pieces: so many entries, and so many bytes. Some end where what differs inside selections just fits or just does
-    not."""
-    entries = [entry for entry in found.entries if entry.selections is not None]
-    whole = [bytes_in_selections(erd_reference.difference_data(entry)) for entry in entries]
-    edges = [size + more for size in (sum(whole[:1]), sum(whole[:2]), sum(whole)) for more in (-1, 0, 1) if size + more > 0]
+    """Bounds for pieces: so many entries, and so many bytes. Some end where what differs inside selections, or the values of that,
+    just fits or just does not."""
+    entries = [data for data in found.data if 'selections' in data]
+    whole = list(map(bytes_in_selections, entries))
+    values = [list(map(bytes_in_values, data['selections'])) for data in entries]
+    sizes = (sum(whole[:1]), sum(whole[:2]), sum(whole), *(sum(of_one[:count]) for of_one in values[:2] for count in (1, 2, len(of_one))))
+    edges = [size + more for size in sizes for more in (-1, 0, 1) if size + more > 0]
     return [(1, ALL), (2, 1000), (ALL, 1), (1000, 2 ** 20), (3, 300), (ALL, dice.randrange(1, 2000)), *((ALL, edge) for edge in edges)]
 
 

@@ -10,7 +10,7 @@ from typing import NamedTuple, Optional
 
 from by_ctypes import Library, both
 from cases import tell
-from listed import ALL, listed as list_of, worded
+from listed import ALL, bare, listed as list_of, worded
 from texts_of_data import check_text, compact, compare_text, difference_line, differences_text, fault_line
 
 FOLDER = os.path.join(os.path.dirname(os.path.abspath(__file__)), os.pardir, os.pardir, "conformance")
@@ -76,7 +76,7 @@ def failure_of_pieces(library, command, case, suite, prefer):
 
 def without_values(answer):
     """The list of differences without what each report has there. Why a report is refused stays."""
-    return [{name: value for name, value in entry.items() if name != "values"} for entry in answer] if isinstance(answer, list) else answer
+    return list(map(bare, answer)) if isinstance(answer, list) else answer
 
 
 def begins_with(listed, difference):

@@ -151,7 +151,7 @@ function faultOf({ place, reason, name }) {
 
 function differenceOf({ part, key, how, member, selections, values }) {
     const difference = { part, key, ...wayOf({ how, member }) };
-    const inside = selections === undefined ? {} : { selections: selections.map(({ name, ...way }) => ({ name, ...wayOf(way) })) };
+    const inside = selections === undefined ? {} : { selections: selections.map(({ name, values, ...way }) => ({ name, ...wayOf(way), values })) };
     return { ...difference, ...inside, ...(values === undefined ? {} : { values }), line: lineOfDifference(difference) };
 }
 

@@ -193,7 +193,7 @@ def contests(top, count, note, kind='a'):
 def test_what_differs_inside_selections(top):
     found = erd.differences(contests(top, 1, 1), contests(top, 1, 2)).differences[0]
     name = erd.SelectionName('ElectionResults.CandidateSelection', (), False, None, None, ('a', '', 'S'))
-    assert found.selections == (erd.SelectionDifference(name, 'member', 'Note'),)
+    assert found.selections == (erd.SelectionDifference(name, 'member', 'Note', {'left': 1, 'right': 2}),)
     assert found.line == 'contest ["local-level","","C-10000"]: member "ContestSelection"'
 
 

@@ -45,7 +45,7 @@ def data_of(difference):
     """The object that the library's JSON has for a difference."""
     data = {'part': difference.part, 'key': difference.key and list(difference.key), **way_of(difference)}
     if difference.selections is not None:
-        data['selections'] = [{'name': json.loads(json.dumps(it.name)), **way_of(it)} for it in difference.selections]
+        data['selections'] = [{'name': json.loads(json.dumps(it.name)), **way_of(it), 'values': it.values} for it in difference.selections]
     if difference.values is not None:
         data['values'] = difference.values
     return data

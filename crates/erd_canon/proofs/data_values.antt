@@ -10,6 +10,7 @@ pub mod TakenTexts  -- that the pieces of lines are together what an engine writ
 pub mod LineTexts  -- the object of a request
 pub mod PieceTexts  -- the answers that have a piece of a list
 pub mod PieceLines  -- the answers that have a piece of a list as lines
-pub mod ValuedTexts  -- the text of the object of a difference with one more member
+pub mod ValuedTexts  -- the texts of the objects of differences with one more member
+pub mod ValuedInside  -- the differences inside the selections of a contest with their values
 pub mod ValuedLists  -- what the list of differences with their values answers
 pub mod WordLists  -- what the list of what ballots print answers

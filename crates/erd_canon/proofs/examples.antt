@@ -8,3 +8,4 @@ mod PieceExamples
 mod ListPieceExamples
 mod PrepareExamples
 mod WordPieceExamples
+mod ValuedExamples

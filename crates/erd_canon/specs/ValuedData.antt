@@ -1,20 +1,23 @@
 -- The JSON values of differences with what each report has there. docs/API.md describes them. All of this is the profile's own.
-use Rattle.std.specs.Prelude.{ℕ, List, Option, Some, None, codes}
-use Rattle.serde_json.specs.Data.{Data, object, Members, no_members, member}
+use Rattle.std.specs.Prelude.{ℕ, ◌-◌, nat_lt, if◌then◌else◌, List, [], ◌∷◌, Option, Some, None, option_map, codes, length}
+use Rattle.serde_json.specs.Data.{Data, null, string, array, object, Members, no_members, member}
+use Rattle.serde_json.specs.View.{items_of}
+use Rattle.serde_json.specs.Written.{compact_text}
 use Rattle.erd_tables.specs.declared.class.Family.TheVariants as family
 use Rattle.erd_tables.specs.declared.class.Role.{Role}
 use Rattle.erd_tables.specs.declared.class.Role.TheVariants as role
 use Rattle.erd_meaning.specs.Keys.{Preference}
-use Rattle.erd_compare.specs.DifferenceData.{difference_members}
+use Rattle.erd_meaning.specs.declared.keys.key.Key.{Key}
+use Rattle.erd_compare.specs.DifferenceData.{after_member, difference_members, how_words}
 use Rattle.erd_compare.specs.Differences.{member_of}
-use Rattle.erd_compare.specs.SelectionData.{selections_data}
+use Rattle.erd_compare.specs.SelectionData.{name_data}
 use Rattle.erd_compare.specs.SelectionDifferences.{told_with}
 use Rattle.erd_compare.specs.declared.detailed.DetailedDifference.{DetailedDifference}
 use Rattle.erd_compare.specs.declared.difference.Difference.{Difference}
 use Rattle.erd_compare.specs.declared.difference.Part.{Part}
 use Rattle.erd_compare.specs.declared.difference.Part.TheVariants as part
 use Rattle.erd_compare.specs.declared.inside.SelectionDifference.{SelectionDifference}
-use Rattle.erd_shown.specs.SideValues.{side_value}
+use Rattle.erd_shown.specs.SideValues.{selection_value, side_value}
 
 -- The role of the objects in a part.
 abbrev pub role_in_part : Part → Role
@@ -49,14 +52,49 @@ abbrev pub values_member : Option Data → Option Data → Members
 values_member None None = no_members
 values_member left right = member (codes "values") (sides_data left right) no_members
 
--- The members with the differences inside the selections of a contest in front of them, if these are told.
-abbrev pub after_selections : Option (List SelectionDifference) → Members → Members
-after_selections None ms = ms
-after_selections (Some ds) ms = member (codes "selections") (selections_data ds) ms
+-- ---- inside the selections of a contest
 
--- The JSON object of a difference between two reports with what each of them has there: that of the difference, with the member
--- `values` behind its members.
-abbrev pub valued_data : Preference → Data → Preference → Data → DetailedDifference → Data
-valued_data π t ρ u d =
+-- What the contest of a report with this key has at a difference of selections: the value of the member that differs, or the
+-- record of the selection if only one contest has it. None where it has none.
+abbrev pub value_at_selection : Preference → Data → Option Key → SelectionDifference → Option Data
+value_at_selection π t k d = selection_value π t k d.name (member_of d.how)
+
+-- How many of so many bytes are left behind the text of a value, if there is one. None once a text has not fitted.
+abbrev pub room_behind : Option ℕ → Option Data → Option ℕ
+room_behind None v = None
+room_behind (Some room) None = Some room
+room_behind (Some room) (Some v) = if nat_lt room (length (compact_text v)) then None else Some (room - length (compact_text v))
+
+-- The last member of a difference of selections, with this room behind its values: what the two contests have there, or null if
+-- these did not fit.
+abbrev pub values_or_null : Option ℕ → Option Data → Option Data → Members
+values_or_null None left right = member (codes "values") null no_members
+values_or_null (Some room) left right = values_member left right
+
+-- The JSON object of a difference of selections, with these members behind its members.
+abbrev pub selection_with : SelectionDifference → Members → Data
+selection_with d ms = object (member (codes "how") (string (how_words d.how)) (after_member d.how (member (codes "name") (name_data d.name) ms)))
+
+-- The objects of differences of selections with their values. They are told for the longest run of differences from the first
+-- one on whose texts of values have no more bytes together than the room. All behind it have null in place of their values.
+abbrev pub valued_selections : (left right : SelectionDifference → Option Data) → (room : Option ℕ) → List SelectionDifference → List Data
+valued_selections left right room [] = []
+valued_selections left right room (d ∷ ds) =
+    let behind = room_behind (room_behind room (left d)) (right d) in
+    selection_with d (values_or_null behind (left d) (right d)) ∷ valued_selections left right behind ds
+
+-- The array of the differences inside the selections of the contests of two reports with this key, with the values of as many of
+-- them as `most` bytes are enough for.
+abbrev pub inside_data : Preference → Data → Preference → Data → (most : ℕ) → Option Key → List SelectionDifference → Data
+inside_data π t ρ u most k ds = array (items_of (valued_selections (value_at_selection π t k) (value_at_selection ρ u k) (Some most) ds))
+
+-- ---- a difference
+
+-- The JSON object of a difference with what the two reports have there: that of the difference, with the member `values` behind
+-- its members. The differences inside the selections of a contest, if these are told, have such a member too, as long as the
+-- texts of their values have at most `most` bytes together.
+abbrev pub valued_data : Preference → Data → Preference → Data → (most : ℕ) → DetailedDifference → Data
+valued_data π t ρ u most d =
     object (difference_members d.difference
-    (after_selections (told_with d) (values_member (value_at_difference π t d.difference) (value_at_difference ρ u d.difference))))
+    (if_told (codes "selections") (option_map (inside_data π t ρ u most d.difference.key) (told_with d))
+    (values_member (value_at_difference π t d.difference) (value_at_difference ρ u d.difference))))

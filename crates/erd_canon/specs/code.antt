@@ -7,4 +7,5 @@ pub mod Fronts  -- the front of a list that a piece shows
 pub mod PrepareCommands  -- what the engine for each command that prepares a report answers
 pub mod BallotForms  -- in which form the ballots of reports are told
 pub mod ValuedTexts  -- the text of what each report has at a difference
+pub mod ValuedInside  -- the text of what both contests have where their selections differ
 pub mod WordTexts  -- the text of an entry of the list of what ballots print

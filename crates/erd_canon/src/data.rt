@@ -16,5 +16,6 @@ pub(crate) mod pieces;
 mod refusals;
 pub(crate) mod texts;
 mod valued;
+mod valued_inside;
 pub(crate) mod valued_pieces;
 pub(crate) mod word_pieces;

@@ -114,6 +114,12 @@ class SelectionDifference:
     member: Optional[str] = None
     """A member in which the two selections differ, if `how` is `member`."""
 
+    values: Optional[Dict[str, object]] = field(default=None, hash=False)
+    """What either contest has there, under `left` and `right`: the value of the member; or the record of the selection, with its `class`
+    and its `members`. Keys stand in place of references. A contest that has nothing there is left out. It is None from the first
+    selection of a contest on where the values have more than a megabyte together, or more than is kept at a time if all differences are
+    asked for."""
+
 
 @dataclass(frozen=True)
 class Difference:
@@ -144,7 +150,8 @@ class Difference:
     values: Optional[Dict[str, object]] = field(default=None, hash=False)
     """What either report has there, under `left` and `right`, as `json.loads` reads it: the value of the member; or the record of the
     object, with its `class`, the key of its `election` and its `members`. Keys stand in place of references. A report that has nothing
-    there is left out. Only `differences` tells it, and not of the selections of contests or of the content of ballots."""
+    there is left out. Only `differences` tells it, and not of the content of ballots. What contests have at their selections is in
+    `selections`."""
 
     @property
     def line(self) -> str:
@@ -346,7 +353,7 @@ def difference_of(data: dict) -> Difference:
 
 def selection_difference_of(data: dict) -> SelectionDifference:
     """Returns the difference inside selections that one object of the library's JSON describes."""
-    return SelectionDifference(selection_name_of(data['name']), data['how'], data.get('member'))
+    return SelectionDifference(selection_name_of(data['name']), data['how'], data.get('member'), data.get('values'))
 
 
 def selection_name_of(data: list) -> SelectionName:

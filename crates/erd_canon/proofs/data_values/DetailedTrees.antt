@@ -96,9 +96,12 @@ selection_at n OnlyLeft = unnamed (codes "only left") (name_data n) (name_low n)
 selection_at n OnlyRight = unnamed (codes "only right") (name_data n) (name_low n)
 selection_at n OtherClass = unnamed (codes "other class") (name_data n) (name_low n)
 
+pub selection_value : (d : SelectionDifference) → IsLow 4 (selection_data d)
+selection_value d = selection_at d.name d.how
+
 each_low : (ds : List SelectionDifference) → AreLow 4 (map selection_data ds)
 each_low [] = none_low 4
-each_low (d ∷ ds) = one_low 4 (selection_data d) (map selection_data ds) (selection_at d.name d.how) (each_low ds)
+each_low (d ∷ ds) = one_low 4 (selection_data d) (map selection_data ds) (selection_value d) (each_low ds)
 
 selections_low : (ds : List SelectionDifference) → IsLow 5 (selections_data ds)
 selections_low ds = array_low 4 5 (map selection_data ds) refl (each_low ds)

@@ -36,8 +36,8 @@ pub values_told : (left right : Bor Judged) (piece : Piece) (found : List Detail
     → left.now.prefer ≡ right.now.prefer
     → AreDetailedDifferences (meaning left.now.prefer (view left.now.tree)) (meaning right.now.prefer (view right.now.tree)) piece.first piece.enough_bytes
     found → outcome ≡ listing_outcome found
-    → TellsEntries (record { left = left; right = right }) piece found told text → TellsValues left.now.prefer piece told (view left.now.tree)
-    (view right.now.tree) outcome text
+    → TellsEntries (record { left = left; right = right; most_bytes = piece.enough_bytes }) piece found told text
+    → TellsValues left.now.prefer piece told (view left.now.tree) (view right.now.tree) outcome text
 values_told left right piece found told outcome text same differ ends tells =
     let π = left.now.prefer in
     let t = view left.now.tree in
@@ -47,7 +47,7 @@ values_told left right piece found told outcome text same differ ends tells =
       differ = subst (λ (σ : Preference). AreDetailedDifferences (meaning π t) (meaning σ u) piece.first piece.enough_bytes found) (sym same) differ;
       ends = ends;
       value = tells.0;
-      tells = subst (λ (σ : Preference). IsPieceData (valued_data π t σ u) piece found told tells.0) (sym same) tells.1;
+      tells = subst (λ (σ : Preference). IsPieceData (valued_data π t σ u piece.enough_bytes) piece found told tells.0) (sym same) tells.1;
       written = tells.2;
     }
 

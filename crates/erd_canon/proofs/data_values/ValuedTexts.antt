@@ -1,17 +1,19 @@
--- The text of the object of a difference with one more member.
+-- The texts of the objects of differences with one more member.
 use Rattle.erd_canon.proofs.Common.{◌≡◌, ℕ, ◌-◌, Bool, true, false, List, [], ◌∷◌, ◌++◌, length, take, Some, None, Option, codes, option_map, refl, sym, ap}
-use Rattle.erd_canon.proofs.Common.{◌∙◌, append_assoc, arith, length-append, Data, string, object, Members, no_members, member, comma_if, compact_text}
+use Rattle.erd_canon.proofs.Common.{◌∙◌, append_assoc, arith, length-append, Data, null, string, object, Members, no_members, member, comma_if, compact_text}
 use Rattle.erd_canon.proofs.Common.{serde_json_on_literals}
 use Rattle.json.specs.Print.{quoted}
 use Rattle.serde_json.specs.Written.{members_text}
 use Rattle.erd_compare.specs.DifferenceData.{after_member, difference_members, how_words, key_data}
 use Rattle.erd_compare.specs.DifferenceLine.{part_text}
-use Rattle.erd_compare.specs.SelectionData.{selections_member}
+use Rattle.erd_compare.specs.SelectionData.{name_data, selection_data}
 use Rattle.erd_compare.specs.declared.difference.Difference.{Difference}
 use Rattle.erd_compare.specs.declared.difference.How.{How}
 use Rattle.erd_compare.specs.declared.difference.How.TheVariants.{OnlyLeft, OnlyRight, OtherClass, Member}
 use Rattle.erd_compare.specs.declared.inside.SelectionDifference.{SelectionDifference}
-use Rattle.erd_canon.specs.ValuedData.{after_selections, sides_data, values_member}
+use Rattle.erd_canon.specs.ValuedData.{if_told, selection_with, sides_data, values_member, values_or_null}
+use Rattle.erd_canon.specs.ValuedData.{room_behind}
+use Rattle.erd_canon.specs.code.ValuedInside.{if_room, inside_put, told_put}
 use Rattle.erd_canon.specs.code.ValuedTexts.{sides_text, values_put}
 
 -- ---- texts that are written piece by piece
@@ -85,6 +87,22 @@ right_text : (b : Data) → sides_text None (Some (compact_text b)) ≡ last_tex
 unfolding serde_json_on_literals
 right_text b = ap (λ t. codes ",\"values\":{\"right\":" ++ t) (sym (append_assoc (compact_text b) (125 ∷ []) (125 ∷ [])))
 
+null_text : codes ",\"values\":null}" ≡ last_text (codes "values") null
+unfolding serde_json_on_literals
+null_text = refl
+
+-- the member of the values, where one more member behind an object is known
+module _ (whole : Members → Data) (text : List ℕ) (is : text ≡ compact_text (whole no_members))
+    (longer : (x : List ℕ) (v : Data) → take (length text - 1) text ++ last_text x v ≡ compact_text (whole (member x v no_members))) where
+  values_behind : (l r : Option Data) → values_put (option_map compact_text l) (option_map compact_text r) text ≡ compact_text (whole (values_member l r))
+  values_behind None None = is
+  values_behind (Some a) None = ap (λ t. take (length text - 1) text ++ t) (left_text a) ∙ longer (codes "values") (sides_data (Some a) None)
+  values_behind None (Some b) = ap (λ t. take (length text - 1) text ++ t) (right_text b) ∙ longer (codes "values") (sides_data None (Some b))
+  values_behind (Some a) (Some b) = ap (λ t. take (length text - 1) text ++ t) (both_text a b) ∙ longer (codes "values") (sides_data (Some a) (Some b))
+
+  null_behind : take (length text - 1) text ++ codes ",\"values\":null}" ≡ compact_text (whole (member (codes "values") null no_members))
+  null_behind = ap (λ t. take (length text - 1) text ++ t) null_text ∙ longer (codes "values") null
+
 -- ---- the members of a difference
 
 after_and : (h : How) (ms ns : Members) → after_member h (and_then ms ns) ≡ and_then (after_member h ms) ns
@@ -93,34 +111,69 @@ after_and OnlyRight ms ns = refl
 after_and OtherClass ms ns = refl
 after_and (Member name) ms ns = refl
 
-selections_and : (s : Option (List SelectionDifference)) (ns : Members) → after_selections s ns ≡ and_then (selections_member s) ns
-selections_and None ns = refl
-selections_and (Some ds) ns = refl
+one_behind : (d : Difference) (ms : Members) (text : List ℕ) → text ≡ compact_text (object (difference_members d ms)) → (x : List ℕ) (v : Data)
+    → take (length text - 1) text ++ last_text x v ≡ compact_text (object (difference_members d (and_then ms (member x v no_members))))
+one_behind d ms text is x v =
+    let behind_part = member (codes "part") (string (part_text d.part)) ms in
+    one_more (codes "how") (string (how_words d.how)) (member (codes "key") (key_data d.key) (after_member d.how behind_part)) x v text is
+    ∙ ap (λ ns. compact_text (object (member (codes "how") (string (how_words d.how)) (member (codes "key") (key_data d.key) ns))))
+    (sym (after_and d.how behind_part (member x v no_members)))
 
-no_more : (s : Option (List SelectionDifference)) → selections_member s ≡ after_selections s no_members
-no_more None = refl
-no_more (Some ds) = refl
+-- the differences inside the selections
+selections_text : (v : Data) → codes ",\"selections\":" ++ (compact_text v ++ codes "}") ≡ last_text (codes "selections") v
+unfolding serde_json_on_literals
+selections_text v = refl
 
-module _ (d : Difference) (s : Option (List SelectionDifference)) (text : List ℕ)
-    (is : text ≡ compact_text (object (difference_members d (selections_member s)))) where
-  abbrev behind_key : Members → Members
-  behind_key ms = after_member d.how (member (codes "part") (string (part_text d.part)) ms)
+pub inside_text : (d : Difference) (text : List ℕ) → text ≡ compact_text (object (difference_members d no_members)) → (inside : Option Data)
+    → inside_put inside text ≡ compact_text (object (difference_members d (if_told (codes "selections") inside no_members)))
+inside_text d text is None = is
+inside_text d text is (Some v) = ap (λ t. take (length text - 1) text ++ t) (selections_text v) ∙ one_behind d no_members text is (codes "selections") v
 
-  with_values : (v : Data) → take (length text - 1) text ++ last_text (codes "values") v
-      ≡ compact_text (object (difference_members d (after_selections s (member (codes "values") v no_members))))
-  with_values v =
-      let ns = member (codes "values") v no_members in
-      one_more (codes "how") (string (how_words d.how)) (member (codes "key") (key_data d.key) (behind_key (selections_member s))) (codes "values") v text is
-      ∙ ap (λ ms. compact_text (object (member (codes "how") (string (how_words d.how)) (member (codes "key") (key_data d.key) ms))))
-      (sym (ap behind_key (selections_and s ns) ∙ after_and d.how (member (codes "part") (string (part_text d.part)) (selections_member s)) ns))
+inside_and : (inside : Option Data) (x : List ℕ) (v : Data)
+    → and_then (if_told (codes "selections") inside no_members) (member x v no_members) ≡ if_told (codes "selections") inside (member x v no_members)
+inside_and None x v = refl
+inside_and (Some list) x v = refl
 
-  pub valued_text : (l r : Option Data) (x y : Option (List ℕ)) → x ≡ option_map compact_text l → y ≡ option_map compact_text r
-      → values_put x y text ≡ compact_text (object (difference_members d (after_selections s (values_member l r))))
-  valued_text l r x y one other = ap (λ z. values_put z y text) one ∙ ap (λ z. values_put (option_map compact_text l) z text) other ∙ at l r
+pub valued_text : (d : Difference) (inside : Option Data) (text : List ℕ)
+    → text ≡ compact_text (object (difference_members d (if_told (codes "selections") inside no_members)))
+    → (l r : Option Data) (x y : Option (List ℕ)) → x ≡ option_map compact_text l → y ≡ option_map compact_text r
+    → values_put x y text ≡ compact_text (object (difference_members d (if_told (codes "selections") inside (values_member l r))))
+valued_text d inside text is l r x y one other =
+    ap (λ z. values_put z y text) one ∙ ap (λ z. values_put (option_map compact_text l) z text) other
+    ∙ values_behind (λ ns. object (difference_members d (if_told (codes "selections") inside ns))) text is
+    (λ k v. one_behind d (if_told (codes "selections") inside no_members) text is k v
+    ∙ ap (λ ns. compact_text (object (difference_members d ns))) (inside_and inside k v)) l r
+
+-- ---- the members of a difference of selections
+
+module _ (d : SelectionDifference) (text : List ℕ) (is : text ≡ compact_text (selection_data d)) where
+  one_behind_name : (x : List ℕ) (v : Data) → take (length text - 1) text ++ last_text x v ≡ compact_text (selection_with d (member x v no_members))
+  one_behind_name x v =
+      let name = member (codes "name") (name_data d.name) no_members in
+      one_more (codes "how") (string (how_words d.how)) (after_member d.how name) x v text is
+      ∙ ap (λ ns. compact_text (object (member (codes "how") (string (how_words d.how)) ns))) (sym (after_and d.how name (member x v no_members)))
+
+  -- with its values, or with null once a value has not fitted
+  pub entry_text : (room : Option ℕ) (l r : Option Data) (x y : Option (List ℕ)) → x ≡ option_map compact_text (if_room room l)
+      → y ≡ option_map compact_text (if_room (room_behind room l) r)
+      → told_put (room_behind (room_behind room l) r) x y text
+      ≡ compact_text (selection_with d (values_or_null (room_behind (room_behind room l) r) l r))
+  entry_text room l r x y one other =
+      ap (λ z. told_put (room_behind (room_behind room l) r) z y text) one
+      ∙ ap (λ z. told_put (room_behind (room_behind room l) r) (option_map compact_text (if_room room l)) z text) other ∙ from room
     where
-      at : (l r : Option Data) → values_put (option_map compact_text l) (option_map compact_text r) text
-          ≡ compact_text (object (difference_members d (after_selections s (values_member l r))))
-      at None None = is ∙ ap (λ ms. compact_text (object (difference_members d ms))) (no_more s)
-      at (Some a) None = ap (λ t. take (length text - 1) text ++ t) (left_text a) ∙ with_values (sides_data (Some a) None)
-      at None (Some b) = ap (λ t. take (length text - 1) text ++ t) (right_text b) ∙ with_values (sides_data None (Some b))
-      at (Some a) (Some b) = ap (λ t. take (length text - 1) text ++ t) (both_text a b) ∙ with_values (sides_data (Some a) (Some b))
+      behind_both : (left : Option ℕ) → told_put left (option_map compact_text l) (option_map compact_text r) text
+          ≡ compact_text (selection_with d (values_or_null left l r))
+      behind_both None = null_behind (selection_with d) text is one_behind_name
+      behind_both (Some left) = values_behind (selection_with d) text is one_behind_name l r
+
+      behind_left : (left : Option ℕ) → told_put (room_behind left r) (option_map compact_text l) (option_map compact_text (if_room left r)) text
+          ≡ compact_text (selection_with d (values_or_null (room_behind left r) l r))
+      behind_left None = null_behind (selection_with d) text is one_behind_name
+      behind_left (Some left) = behind_both (room_behind (Some left) r)
+
+      from : (room : Option ℕ) → told_put (room_behind (room_behind room l) r) (option_map compact_text (if_room room l))
+          (option_map compact_text (if_room (room_behind room l) r)) text
+          ≡ compact_text (selection_with d (values_or_null (room_behind (room_behind room l) r) l r))
+      from None = null_behind (selection_with d) text is one_behind_name
+      from (Some room) = behind_left (room_behind (Some room) l)

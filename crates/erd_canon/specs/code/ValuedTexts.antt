@@ -35,7 +35,7 @@ values_put left right text = if have_any left right then take (length text - 1) 
 
 -- The object of a difference with what the two reports have there.
 abbrev pub valued_of : Sides → DetailedDifference → Data
-valued_of s d = valued_data s.left.now.prefer (view s.left.now.tree) s.right.now.prefer (view s.right.now.tree) d
+valued_of s d = valued_data s.left.now.prefer (view s.left.now.tree) s.right.now.prefer (view s.right.now.tree) s.most_bytes d
 
 -- What a difference is counted as: the length of the text of its object.
 abbrev pub valued_size : Sides → DetailedDifference → ℕ

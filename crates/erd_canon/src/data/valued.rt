@@ -2,20 +2,24 @@
 ghost use Rattle.std.specs.Prelude.{◌≡◌, ◌++◌, ◌-◌, IfOk, OnOk, is_some, length, option_copied, option_map, string_bytes, take};
 ghost use Rattle.erd_canon.specs.Words.{comma_if, compact_text, view};
 ghost use Rattle.erd_canon.specs.ValuedData.{role_in_part, value_at_difference};
+ghost use Rattle.erd_canon.specs.code.ValuedInside.{inside_of, inside_put};
 ghost use Rattle.erd_canon.specs.code.ValuedTexts.{have_any, have_both, side_text, sides_text, valued_of, valued_size, valued_text, values_put};
 ghost use Rattle.erd_compare.specs.Differences.{member_of};
 
+use crate::data::valued_inside::{Contests, contest_of, push_selections};
 use erd_compare::{DetailedDifference, Difference, How, Part};
 use erd_meaning::Report;
 use erd_shown::side_value_text;
 use erd_tables::{Family, Role};
 use std::alloc::{AllocError, Global};
 
-/// The two reports that are compared.
+/// The two reports that are compared, and a bound on what is told of them.
 #[derive(Clone, Copy)]
 pub(crate) struct Sides<'a> {
     pub(crate) left: &'a Report<'a>,
     pub(crate) right: &'a Report<'a>,
+    /// How many bytes the texts of the values inside the selections of one difference may have together.
+    pub(crate) most_bytes: usize,
 }
 
 /// Appends the object of a difference with what each report has there, after a comma if it is not the first, and returns how many
@@ -37,7 +41,7 @@ pub(crate) fn push_valued(
 }
 
 /// Appends a comma if the item that follows is not the first.
-fn push_comma(later: bool, text: &mut Vec<u8>) -> Result<(), AllocError>
+pub(crate) fn push_comma(later: bool, text: &mut Vec<u8>) -> Result<(), AllocError>
     ensures { OnOk result (text.new.items ≡ text.old.items ++ comma_if later) }
 {
     if later {
@@ -56,13 +60,37 @@ fn object_text(
 {
     let left = value_on_side(alloc, sides.left, &difference.difference)?;
     let right = value_on_side(alloc, sides.right, &difference.difference)?;
-    let mut text = difference.to_value(alloc)?.to_string(alloc)?.into_bytes();
+    let plain = difference.difference.to_value(alloc)?;
+    let mut text = plain.to_string(alloc)?.into_bytes();
+    push_inside(alloc, sides, difference, &mut text)?;
     push_values(text_of(&left), text_of(&right), &mut text)?;
     Ok(text)
 }
 
+/// Puts the member `selections` into the text of the object of a difference, behind its members, if what differs inside the
+/// selections is told.
+fn push_inside(
+    alloc: Global,
+    sides: &Sides,
+    difference: &DetailedDifference,
+    text: &mut Vec<u8>,
+) -> Result<(), AllocError>
+    ensures { OnOk result (text.new.items ≡ inside_put (inside_of sides.now difference.now) text.old.items) }
+{
+    match &difference.selections {
+        Some(selections) => {
+            let key = difference.difference.key.as_ref();
+            let left = contest_of(sides.left, key);
+            let right = contest_of(sides.right, key);
+            let contests = Contests { left, right };
+            push_selections(alloc, &contests, selections, sides.most_bytes, text)
+        }
+        None => Ok(()),
+    }
+}
+
 /// Returns the text that is there, if there is one.
-fn text_of(text: &Option<String>) -> Option<&str>
+pub(crate) fn text_of(text: &Option<String>) -> Option<&str>
     ensures { option_copied result ≡ option_map string_bytes text.now }
 {
     match text {
@@ -86,7 +114,7 @@ fn value_on_side(
 }
 
 /// Returns the name of the member that differs, if the difference is in a member.
-fn member_of(how: &How) -> Option<&str>
+pub(crate) fn member_of(how: &How) -> Option<&str>
     ensures { option_copied result ≡ member_of how.now }
 {
     match how {
@@ -114,7 +142,7 @@ fn role_in_part(part: Part) -> Role
 }
 
 /// Puts the member `values` into the text of an object, behind its members, if there is a text for a side.
-fn push_values(
+pub(crate) fn push_values(
     left: Option<&str>,
     right: Option<&str>,
     text: &mut Vec<u8>,

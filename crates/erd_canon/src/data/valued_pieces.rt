@@ -25,6 +25,10 @@ use std::alloc::{AllocError, Global};
 /// member. In values, keys stand in place of references. A difference in the selections of a contest or in the content of a
 /// ballot has no member `values`. `erd_shown::side_value_text` tells more of the values.
 ///
+/// Each entry of a member `selections` has such a member `values` too: what the two contests have at the name of the selection.
+/// The values inside one difference are told for the longest run of entries, from the first one on, whose texts of values have
+/// at most `enough_bytes` bytes together. The member `values` of all entries behind it is null.
+///
 /// # Errors
 ///
 /// `AllocError` if out of memory.
@@ -118,7 +122,11 @@ fn values_between(
         answer.outcome answer.text.items) }
 {
     let found = detailed_differences(alloc, left, right, piece.first, piece.enough_bytes)?;
-    let sides = Sides { left, right };
+    let sides = Sides {
+        left,
+        right,
+        most_bytes: piece.enough_bytes,
+    };
     listed(alloc, &sides, &found, piece)
 }
 
