@@ -1,10 +1,16 @@
 -- The differences inside the selections of a contest with their values, entry by entry.
-use Rattle.erd_canon.proofs.Common.{◌≡◌, ℕ, Bool, true, List, ◌∷◌, ◌++◌, Option, ap, ◌∙◌, append_assoc, items_of, comma_if, compact_text}
+use Rattle.erd_canon.proofs.Common.{◌≡◌, ℕ, Bool, true, List, ◌∷◌, ◌++◌, Option, None, Some, option_map, refl, ap, ◌∙◌, append_assoc}
+use Rattle.erd_canon.proofs.Common.{Data, items_of, comma_if, compact_text}
 use Rattle.serde_json.specs.Written.{items_text}
 use Rattle.erd_compare.specs.declared.inside.SelectionDifference.{SelectionDifference}
-use Rattle.erd_canon.specs.ValuedData.{valued_selections}
-use Rattle.erd_canon.specs.code.ValuedInside.{entry_at, room_at, value_in_contest}
+use Rattle.erd_canon.specs.ValuedData.{room_behind, valued_selections}
+use Rattle.erd_canon.specs.code.ValuedInside.{entry_at, room_after, room_at, value_in_contest}
 use Rattle.erd_canon.specs.declared.data.valued_inside.Contests.{Contests}
+
+-- what is left of a room behind the text of a value
+pub room_told : (room : ℕ) (v : Option Data) → room_after room (option_map compact_text v) ≡ room_behind (Some room) v
+room_told room None = refl
+room_told room (Some v) = refl
 
 -- the text of the entries that are left, with the end of their array
 abbrev pub rest_text : Contests → Bool → Option ℕ → List SelectionDifference → List ℕ
