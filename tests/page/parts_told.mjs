@@ -182,6 +182,33 @@ equal('differences: what differs inside, and which values', known.some({ from: 0
     [inside?.entries.map(({ how, name }) => `${how} ${name}`), rows?.map(({ left, right }) => `${left.text} ${right.text}`), word, titles])),
 [[['only left Candidate “The candidate” (local-level K)'], null, 'seen', ['The contest', 'The contest']],
     [null, ['“A” “B”'], 'unseen', ['The contest', 'The contest']]]);
+// What either file has in the members of selections in which they differ, by what the files call the objects that a value names.
+const ofSelection = (member, values) => ({ how: 'member', name: NAME, member, ...(values === undefined ? {} : { values }) });
+const ours = (part) => ({ ...called(part), title: `Our ${part}` });
+const selectionsOf = (...selections) => new Differences([{ ...LISTED[0], selections }], 1, () => null, [called, ours], { CandidateContest: {} })
+    .some({ from: 0, count: 1 })[0].inside.entries;
+const P = ['fips', '', 'P'];
+const identifiedBy = (Value) => ({ '@type': 'ElectionResults.ExternalIdentifier', Type: 'fips', Value });
+equal('selections: what either file has in a member', selectionsOf(ofSelection('Note', { left: 1, right: [2, 'x'] }), ofSelection('IsWriteIn', { left: false }),
+    ofSelection('EndorsementPartyIds', { left: [P], right: [P, NAME[1][0]] }),
+    ofSelection('ExternalIdentifier', { left: ['1', '2'].map(identifiedBy), right: [identifiedBy('2')] }))
+    .map(({ rows, there, lacking }) => [rows.map(({ left, right, same }) => [left?.text, right?.text, same]), there, lacking]),
+[[[['1', '1: 2', false], [undefined, '2: “x”', false]], [true, true], [false, false]],
+    [[['false', undefined, false]], [true, false], [false, true]],
+    [[['Party “The party” (fips P)', 'Party “Our party” (fips P)', true], [undefined, 'Party “Our party” (local-level K)', false]],
+        [true, true], [false, false]],
+    [[['fips 1', undefined, false], ['fips 2', 'fips 2', true]], [true, true], [false, false]]]);
+equal('selections: what differs within two values', selectionsOf(ofSelection('Note', { left: 'since 2018', right: 'since 2020' }))[0].rows[0].pieces.right,
+    [piece('“since 20'), piece('20', true), piece('”')]);
+equal('selections: values that are too long, those of a selection that one file has, and none', selectionsOf(ofSelection('Note', null),
+    { how: 'only left', name: NAME, values: { left: { class: 'ElectionResults.CandidateSelection', members: { IsWriteIn: true } } } }, ofSelection('Note'))
+    .map(({ name: _name, ...one }) => one), [{ how: 'member', member: 'Note', isTooLong: true }, { how: 'only left' }, { how: 'member', member: 'Note' }]);
+const longNote = (letter) => ofSelection('Note', { left: letter.repeat(24_977), right: letter });
+equal('selections: behind values of 50,000 characters none are shown', selectionsOf(...['a', 'b', 'c'].map(longNote))
+    .map(({ rows, isTooLong }) => [rows?.length, isTooLong]), [[1, undefined], [1, undefined], [undefined, true]]);
+const manyNotes = (first) => Array.from({ length: 30 }, (_, at) => first + at);
+equal('selections: of very long values some rows', selectionsOf(ofSelection('Note', { left: manyNotes(0), right: manyNotes(100) }))
+    .map(({ rows }) => [rows.length, rows.at(-1)]), [[21, { more: 10 }]]);
 equal('differences: those of one kind, and of a record', [known.some({ kind: 1, from: 0, count: 9 }), known.some({ isFiled: true, from: 1, count: 9 })]
     .map((some) => some.map(({ member }) => member)), [['Name'], ['Name']]);
 const { count, listed: number, seen, kinds, tallies } = known.told({ all: 3, differing: 1 });

@@ -6,7 +6,7 @@ import { below } from './elements.mjs';
 import { BallotSentences, findingSentence } from '../../web/scripts/ballot_sentences.mjs';
 import { ballotShown } from '../../web/scripts/ballot_view.mjs';
 import { cardOf } from '../../web/scripts/card.mjs';
-import { firstDifference, insideSentence, useExplanations } from '../../web/scripts/comparison.mjs';
+import { differenceEntry, firstDifference, insideSentence, useExplanations } from '../../web/scripts/comparison.mjs';
 import { differenceList, ownOffer, ownSentence, typeOffer } from '../../web/scripts/difference_list.mjs';
 import { FaultCards, where } from '../../web/scripts/faults.mjs';
 import { differencesFiled, faultsFiled } from '../../web/scripts/findings.mjs';
@@ -110,6 +110,10 @@ const DIFFERENCES = {
         { left: line('C'), right: line('C'), same: true }, { more: 5 }] },
     'some of what differs inside': { ...INSIDE, inside: { part: 'contest', count: 3, entries: [{ how: 'only left', name: 'Ann' }] } },
     'what differs inside is not told': { ...INSIDE, inside: null },
+    'values of selections': { ...INSIDE, inside: { part: 'contest', count: 4, entries: [
+        { how: 'only right', name: 'Ann' }, { ...VOTES, member: 'Note', name: 'Bo', rows: [{ left: line('3'), right: line('4'), same: false }] },
+        { ...VOTES, member: 'IsWriteIn', name: 'Cy', there: [false, true], lacking: [true, false], rows: [{ left: null, right: line('true'), same: false }] },
+        { how: 'member', member: 'Note', name: 'Di', isTooLong: true }] } },
     'what differs on a ballot': { ...INSIDE, part: 'style', member: 'OrderedContent', inside: { part: 'style', count: 4, entries: [
         { how: 'changed', name: 'Units' }, { how: 'removed', name: 'Contest' }, { how: 'added', name: 'Header' }, { how: 'moved', name: 'Selection: Ann' }] } },
     'a ballot whose lines are the same': { ...INSIDE, part: 'style', member: 'OrderedContent', inside: { part: 'style', count: 0, entries: [] } },
@@ -123,9 +127,16 @@ const LISTED = { count: 4, listed: 4, tallies: TALLIES, seen: {}, kinds: [{ coun
 const answering = (answers) => ({ ask: async (kind, question) => answers[kind](question) });
 const lister = (all) => answering({ more: ({ from, count }) => ENTRIES.slice(from, Math.min(all, from + count)).map((_, at) => numbered(from + at)) });
 const own = (types, count) => ownSentence({ types, count });
+const entryOpened = (difference) => {
+    const entry = differenceEntry(difference, NAMES);
+    below(entry, 'details')[0].listeners.toggle();
+    return entry;
+};
 const LISTS = {
     'inside selections': [{ how: 'member', member: 'SequenceOrder', name: 'Ann' }, { how: 'only left', name: 'Ann' }, { how: 'only right', name: 'Ann' }]
         .map((one) => insideSentence(one, NAMES)),
+    'an entry of the list with values of selections': entryOpened(DIFFERENCES['values of selections']),
+    'an entry of the list without values': entryOpened(DIFFERENCES['some of what differs inside']),
     'the list': await differenceList(lister(4), LISTED, NAMES),
     'a part of the list': await differenceList(lister(4), { ...LISTED, count: 9, tallies: [] }, NAMES),
     'a list that was miscounted': await differenceList(lister(4), { ...LISTED, kinds: [{ count: 5 }], tallies: [], seen: null }, NAMES),
@@ -134,6 +145,8 @@ const LISTS = {
     'filed differences of a part': differencesFiled([numbered(2)], { count: 9, listed: 5 }, NAMES),
     'filed differences inside': differencesFiled([{ ...DIFFERENCES['what differs on a ballot'], number: 0 },
         { ...DIFFERENCES['a ballot whose lines are the same'], number: 1 }], { count: 2, listed: 2 }, NAMES),
+    'filed values of selections': differencesFiled([{ ...DIFFERENCES['values of selections'], number: 0 },
+        { ...DIFFERENCES['some of what differs inside'], number: 1 }], { count: 2, listed: 2 }, NAMES),
     'filed faults': faultsFiled(['/a: wrong kind', '/b: repeated'], 7, 'a.json'),
     'all faults are filed': faultsFiled(['/a: wrong kind'], 1, 'a.json'),
     'the offer of an own view': ownOffer([['fips'], []], NAMES, () => {}),

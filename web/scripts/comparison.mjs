@@ -18,13 +18,13 @@ export function useExplanations(fixes) {
 
 /** The first difference in plain words, with the values of both files beside each other where they are known. */
 export function firstDifference(first, names) {
-    const groups = first.titles === undefined ? [] : [...objectGroups(first), ...memberGroups(first)];
+    const groups = first.titles === undefined ? [] : [...objectGroups(first), ...memberGroups(first), ...insideGroups(first)];
     return element('section', { 'aria-labelledby': 'first-difference' },
         element('h3', { id: 'first-difference' }, say('difference.first')),
         element('p', { class: 'sentence' }, sentence(first, names)), ...insideShown(first, names), groups.length === 0 ? null : table(groups, names));
 }
 
-/** A difference of the list: its sentence, and when it is opened what differs inside its selections, and its values. */
+/** A difference of the list: its sentence, and when it is opened what differs inside its selections, and the values. */
 export function differenceEntry(entry, names) {
     if (entry.rows === undefined && entry.inside === undefined) {
         return element('li', {}, sentence(entry, names));
@@ -35,7 +35,8 @@ export function differenceEntry(entry, names) {
 }
 
 function valuesShown(entry, names) {
-    return entry.rows === undefined ? [] : [table(entry.rows === null ? objectGroups(entry) : memberGroups(entry), names)];
+    const groups = entry.rows === null ? objectGroups(entry) : [...memberGroups(entry), ...insideGroups(entry)];
+    return groups.length === 0 ? [] : [table(groups, names)];
 }
 
 // ---- the sentence
@@ -78,13 +79,17 @@ function insideShown({ inside }, names) {
     const more = inside.count - inside.entries.length;
     return [element('p', { class: 'inside-heading' }, say(`inside.heading.${inside.part}`, { count: inside.count })),
         element('ul', { class: 'inside' }, ...inside.entries.map((one) => element('li', {}, insideSentence(one, names))),
-            more === 0 ? null : element('li', {}, say('inside.more', { count: more })))];
+            more === 0 ? null : element('li', {}, say('inside.more', { count: more }))),
+        ...inside.entries.some(({ isTooLong }) => isTooLong) ? [element('p', { class: 'note' }, say('inside.tooLong'))] : []];
 }
 
 /** A difference inside selections or on a ballot, as a sentence. */
 export function insideSentence({ how, member, name }, names) {
-    return saidWith(`inside.${how}`, { selection: element('strong', {}, long(name, LONGEST_LINE)), member: memberWords(member ?? ''),
-        left: theirs(names[0]), right: theirs(names[1]) });
+    return saidWith(`inside.${how}`, { selection: nameShown(name), member: memberWords(member ?? ''), left: theirs(names[0]), right: theirs(names[1]) });
+}
+
+function nameShown(name) {
+    return element('strong', {}, long(name, LONGEST_LINE));
 }
 
 // ---- the table: groups of rows, each group with a heading
@@ -113,6 +118,12 @@ function memberGroups({ how, member, rows, there, lacking }) {
     }
     const words = lacking.map((isLacking, side) => (isLacking ? absent(there[side] ? 'difference.empty' : 'difference.notThere') : null));
     return [{ heading: memberWords(member), rows: [...lackingRow(words), ...rows.flatMap(rowShown)] }];
+}
+
+// The values of each member in which two selections differ.
+function insideGroups({ inside }) {
+    return (inside?.entries ?? []).flatMap((one) => memberGroups(one).map(({ heading, rows }) => ({
+        heading: saidWith('inside.values', { selection: nameShown(one.name), member: heading }), rows })));
 }
 
 function lackingRow(lacking) {

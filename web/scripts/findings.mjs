@@ -25,7 +25,7 @@ export function differencesFiled(entries, { count, listed }, names) {
         element('ol', {}, ...items), leftOut(count - items.length));
 }
 
-// What differs inside selections or on a ballot, or else the values of a member.
+// What differs inside selections, with their values, or on a ballot, or else the values of a member.
 function linesOf(entry, names) {
     if (entry.inside === undefined || entry.inside === null) {
         return [...(entry.inside === null ? [say('inside.notTold')] : []), ...valuesOf(entry)];
@@ -34,8 +34,10 @@ function linesOf(entry, names) {
     if (count === 0) {
         return [say('inside.carried')];
     }
-    const shown = entries.slice(0, MOST_INSIDE).map((one) => insideSentence(one, names));
-    return count === shown.length ? shown : [...shown, say('inside.more', { count: count - shown.length })];
+    const some = entries.slice(0, MOST_INSIDE);
+    return [...some.flatMap((one) => [insideSentence(one, names), ...valuesOf(one)]),
+        ...(some.some(({ isTooLong }) => isTooLong) ? [say('inside.tooLong')] : []),
+        ...(count === some.length ? [] : [say('inside.more', { count: count - some.length })])];
 }
 
 // The values of a member, and why two of them look alike.

@@ -1,12 +1,18 @@
 // What differs inside the selections of two contests, or on the ballots of two styles, with a name of each thing for a reader. What differs
-// comes from the proved code.
-import { exactValue } from '../../bindings/js/lib/exact.mjs';
+// comes from the proved code, and so do the values of selections.
+import { compactText, exactValue } from '../../bindings/js/lib/exact.mjs';
 import { linesIn } from './ballot_findings.mjs';
+import { rowsOfMember } from './rows.mjs';
 import { say } from './texts.mjs';
 import { nameOf, plainLines, textOfTriple } from './values.mjs';
 
 /** The most of these differences that the page shows of one contest or one ballot. */
 const MOST_INSIDE = 100;
+
+/** The most rows that the page shows of one member of a selection, and the characters of JSON from which on it shows no more values of the
+ * selections of one contest. */
+const MOST_ROWS = 20;
+const ENOUGH_CHARACTERS = 50_000;
 
 // What is told of whoever gets a ballot, and the kinds of objects that they are.
 const VOTERS = { units: 'unit', parties: 'party' };
@@ -20,8 +26,7 @@ const VOTERS = { units: 'unit', parties: 'party' };
  */
 export function insideOf({ part, key, how, member, selections }, called, belowOf) {
     if (how === 'member' && part === 'contest' && member === 'ContestSelection') {
-        return selections === undefined ? null : toldOf('contest', selections, (one) => ({ how: one.how, member: one.member,
-            name: selectionText(one.name, one.how === 'only right' ? [...called].reverse() : called) }));
+        return selections === undefined ? null : toldOf('contest', selections, entriesOfSelections(called));
     }
     const below = how === 'member' && part === 'style' && member === 'OrderedContent' ? belowOf(key) : null;
     return below === null ? undefined
@@ -30,6 +35,22 @@ export function insideOf({ part, key, how, member, selections }, called, belowOf
 
 function toldOf(part, all, entryOf) {
     return { part, count: all.length, entries: all.slice(0, MOST_INSIDE).map(entryOf) };
+}
+
+// Makes the entries of the selections of one contest, with the values of members that are not too long.
+function entriesOfSelections(called) {
+    let characters = 0;
+    return ({ how, member, name, values }) => {
+        const entry = { how, member, name: selectionText(name, how === 'only right' ? [...called].reverse() : called) };
+        if (how !== 'member' || values === undefined) {
+            return entry;
+        }
+        if (values === null || characters >= ENOUGH_CHARACTERS) {
+            return { ...entry, isTooLong: true };
+        }
+        characters += compactText(values).length;
+        return { ...entry, ...rowsOfMember(member, values, called, MOST_ROWS) };
+    };
 }
 
 // A line of the proved code on a ballot: how something differs, what it is, and its key or its name as JSON.

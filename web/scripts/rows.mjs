@@ -22,32 +22,35 @@ export function rowsOfDifference({ part, key, how, member, values }, called) {
             classes: sides.map((record) => record?.class.replace('ElectionResults.', '') ?? null) };
     }
     const titles = called.map((ofSide) => ofSide(part, key)?.title ?? null);
-    if (values === undefined) {
-        return { titles };
-    }
+    return values === undefined ? { titles } : { titles, ...rowsOfMember(member, values, called) };
+}
+
+/** The rows of both values of a member, at most so many, which side has none, and which side's is empty. */
+export function rowsOfMember(member, { left, right }, called, most = MOST_ROWS) {
+    const sides = [left, right];
     const lines = sides.map((value, at) => (value === undefined ? [] : linesOf(member, value, called[at])));
-    return { titles, rows: shownRows(rowsOfMember(sides, lines)), there: sides.map((value) => value !== undefined),
+    return { rows: shownRows(rowsOfLines(sides, lines), most).map(withPieces), there: sides.map((value) => value !== undefined),
         lacking: lines.map((some) => some.length === 0) };
 }
 
 // Two values may differ in what the lines for a reader leave out. Then their JSON is shown, with keys in place of references.
-function rowsOfMember(sides, lines) {
+function rowsOfLines(sides, lines) {
     const rows = aligned(...lines);
     const isTold = rows.some(({ same }) => !same) || sides.includes(undefined);
-    return (isTold ? rows : aligned(...sides.map(jsonLines))).map(withPieces);
+    return isTold ? rows : aligned(...sides.map(jsonLines));
 }
 
 // What differs within two lines, and why they look alike if they do.
 function withPieces(row) {
     const { left, right, same } = row;
-    return same || left === null || right === null ? row : { ...row, pieces: piecesOfBoth(left.text, right.text), alike: whyAlike(left.text, right.text) };
+    return same !== false || left === null || right === null ? row : { ...row, pieces: piecesOfBoth(left.text, right.text), alike: whyAlike(left.text, right.text) };
 }
 
 /**
  * Of many rows those that differ, with some equal rows around them, and a count in place of those that are left out: `equal` counts rows
  * that are equal, and `more` the rows that differ and are left out at the end.
  */
-export function shownRows(rows) {
+export function shownRows(rows, most = MOST_ROWS) {
     const shown = [];
     const leftOut = (count) => (count === 0 ? [] : [{ equal: count }]);
     let equal = 0;
@@ -56,7 +59,7 @@ export function shownRows(rows) {
             equal++;
             continue;
         }
-        if (shown.length >= MOST_ROWS) {
+        if (shown.length >= most) {
             const more = rows.slice(at).filter(({ same }) => !same).length;
             return [...shown, ...(more > 0 ? [{ more }] : leftOut(equal + rows.length - at))];
         }
