@@ -96,11 +96,15 @@ function tryPair(name, [left, right], prefer) {
     const below = new Map(styles.map((style) => [String(style.key), style.below]));
     for (const entry of differences) {
         const { rows, there, classes } = rowsOfDifference(entry, called);
+        const inside = insideOf(entry, called, (key) => below.get(String(key)) ?? '');
         const isShown = entry.how !== 'member' ? classes[0] !== classes[1]
-            : rows === undefined ? insideOf(entry, called, (key) => below.get(String(key)) ?? '') !== undefined
-            : rows.some((row) => row.same === false) || there[0] !== there[1];
+            : rows === undefined ? inside?.entries.every((one) => one.how !== 'member' || showsValues(one)) : showsValues({ rows, there });
         equal(`${name}: both values of ${entry.line}`, isShown, true);
     }
+}
+
+function showsValues({ rows, there }) {
+    return rows.some((row) => row.same === false) || there[0] !== there[1];
 }
 
 // The parts of a text.

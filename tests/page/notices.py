@@ -21,6 +21,7 @@ def run(session):
     own_view(session)
     many_selections(session)
     long_names(session)
+    long_values(session)
     other_type(session)
     worst_type(session)
     type_of_many(session)
@@ -159,8 +160,10 @@ def many_selections(session):
     session.equal('many selections: the first and the last', [shown[0], *shown[-2:]],
                   [answers.say('inside.member', selection=f'write-in (place {number}, fips {number})', member='Note') for number in (0, 99)]
                   + [answers.say('inside.more', count=30)])
+    session.equal('many selections: both values of the last', session.texts('[aria-labelledby="first-difference"] tbody:last-child :is(th, .value)'),
+                  [answers.say('inside.values', selection='write-in (place 99, fips 99)', member='Note'), '1', '2'])
     filed = session.texts('[data-filed] li > div')
-    session.equal('many selections: in the record', [len(filed), filed[-1]], [21, answers.say('inside.more', count=110)])
+    session.equal('many selections: in the record', [len(filed), filed[1], filed[-1]], [41, '1 / 2', answers.say('inside.more', count=110)])
 
 
 def long_names(session):
@@ -168,6 +171,17 @@ def long_names(session):
     session.judged(*(with_selections(session, name, 4, note, 'x' * 300_000) for name, note in (('left.json', 1), ('right.json', 2))))
     session.equal('long names: they are not listed', session.texts('[aria-labelledby="first-difference"] > .note'), [answers.say('inside.notTold')])
     session.equal('long names: nor in the record', session.texts('[data-filed] li > div')[:1], [answers.say('inside.notTold')])
+
+
+def long_values(session):
+    """Selections that differ, with values that are longer than a megabyte together: those that fit are shown, and the page says that others
+    are not listed."""
+    session.judged(*(with_selections(session, name, 4, letter * 300_000) for name, letter in (('left.json', 'a'), ('right.json', 'b'))))
+    session.equal('long values: the selections are listed', session.texts('.inside-heading'), [answers.say('inside.heading.contest', count=4)])
+    session.equal('long values: those of the first are shown', session.texts('[aria-labelledby="first-difference"] tbody:nth-last-child(-n + 2) th'),
+                  [answers.say('difference.identifier'), answers.say('inside.values', selection='write-in (place 0, fips 0)', member='Note')])
+    session.equal('long values: others are not listed', session.texts('[aria-labelledby="first-difference"] > .note'), [answers.say('inside.tooLong')])
+    session.equal('long values: nor in the record', session.texts('[data-filed] li > div')[-1:], [answers.say('inside.tooLong')])
 
 
 def other_type(session):

@@ -303,24 +303,40 @@ class Result:
 
     def entry(self, entry):
         """A difference as it is shown: its sentence, what differs inside selections, and its table."""
-        return [self.sentence_on(entry), *self.inside(entry), *self.table(entry)]
+        return [self.sentence_on(entry), *self.inside(entry), *self.table(entry), *self.values_inside(entry)]
 
     def other(self, entry):
         """A difference of the list. Its table has no more than its sentence needs."""
         table = self.table(entry)
-        return [self.sentence_on(entry), *self.inside(entry), *((table[-1:] if entry.get('values') else []) if entry['how'] == 'member' else table)]
+        return [self.sentence_on(entry), *self.inside(entry), *((table[-1:] if entry.get('values') else []) if entry['how'] == 'member' else table),
+                *self.values_inside(entry)]
 
     def inside(self, entry):
-        """What differs inside the selections of a contest: the reference program says how, and the row has the names. What differs on a ballot
-        is in the row."""
+        """What differs inside the selections of a contest, or on a ballot, which is in the row."""
         if 'onBallot' in entry:
             return [say('inside.heading.style', count=len(entry['onBallot'])), *(say(f'inside.{how}', selection=name) for how, name in entry['onBallot'])]
-        ways = next((it['selections'] for it in self.data if (it['key'], it.get('member')) == (entry.get('key'), entry.get('member')) and 'selections' in it), [])
-        names = entry.get('inside', [])
-        assert len(ways) == len(names), f'{self.name}: {len(ways)} names of {entry}'
-        lines = [say(f'inside.{way["how"]}', selection=name, member=member_words(way.get('member', '')), left=self.answers[0].name,
-                     right=self.answers[1].name) for way, name in zip(ways, names)]
+        lines = [line for line, _, _ in self.selections(entry)]
         return [say('inside.heading.contest', count=len(lines)), *lines] if lines else []
+
+    def values_inside(self, entry):
+        """The groups of the table that have the values of selections."""
+        return [[heading, *rows] for _, heading, values in self.selections(entry) if (rows := with_signs(values))]
+
+    def filed_inside(self, entry):
+        """What differs inside selections or on a ballot, as the printed record has it: with the values, and without a heading."""
+        lines = [text for line, _, values in self.selections(entry) for text in (line, *values_filed(values))]
+        return lines or self.inside(entry)[1:]
+
+    def selections(self, entry):
+        """What differs inside the selections of a contest: of each the line, and of a member the heading and the rows of its values. The
+        reference program says how they differ. The row has the names, and what is shown of the values of the members."""
+        ways = next((it['selections'] for it in self.data if (it['key'], it.get('member')) == (entry.get('key'), entry.get('member')) and 'selections' in it), [])
+        names, values = entry.get('inside', []), iter(entry.get('insideValues', []))
+        assert len(ways) == len(names), f'{self.name}: {len(ways)} names of {entry}'
+        words = [member_words(way.get('member', '')) for way in ways]
+        return [(say(f'inside.{way["how"]}', selection=name, member=member, left=self.answers[0].name, right=self.answers[1].name),
+                 say('inside.values', selection=name, member=member), next(values) if way['how'] == 'member' else [])
+                for way, name, member in zip(ways, names, words)]
 
     def sentence_on(self, entry):
         title = next((f' “{it}”' for it in entry['titles'] if it), '')
@@ -339,7 +355,7 @@ class Result:
         groups += [('difference.identifier', [shown_key if is_there else None for is_there in there])] if key else []
         groups += [('difference.class', entry['classes'])] if how == 'other class' else []
         rows = [[say(label), cells(texts)] for label, texts in groups]
-        values = [[value.replace('≠', sign()) for value in row] for row in entry.get('values', ())]
+        values = with_signs(entry.get('values', ()))
         return [*rows, *([[member_words(entry['member']), *values]] if values else [])]
 
     def others(self):
@@ -387,7 +403,7 @@ class Result:
         if self.is_listed:
             headings = [say('difference.all', count=len(self.entries))]
             ordered = sorted(self.entries, key=lambda entry: ('seen', 'in doubt', 'unseen').index(self.word(entry))) if self.has_names else self.entries
-            entries = [self.sentence_on(entry) + ''.join(self.inside(entry)[1:] or values_filed(entry)) for entry in ordered]
+            entries = [self.sentence_on(entry) + ''.join(self.filed_inside(entry) or values_filed(entry.get('values', ()))) for entry in ordered]
         is_told = self.is_listed and self.has_names
         left_out = [say('seen.leftOut')] if is_told and self.left_out() else []
         paragraphs = [*self.notices(), *left_out, say('record.proved'), say('record.notProved'), *self.signed()]
@@ -488,13 +504,18 @@ def member_text(value):
     return '\n'.join(' '.join(filter(None, (one['Type'], one.get('OtherType', ''), one['Value']))) for one in value) if isinstance(value, list) else str(value)
 
 
-def values_filed(entry):
+def values_filed(rows):
     """The values of a difference as the printed record has them."""
     nothing = say('difference.notThere')
-    for row in entry.get('values', ()):
+    for row in rows:
         if nothing not in row and any('≠' in value for value in row):
             left, right = (value.replace('≠', '') for value in row)
             yield f'{left or nothing} / {right or nothing}'
+
+
+def with_signs(rows):
+    """The cells of values, with the word of each sign."""
+    return [[value.replace('≠', sign()) for value in row] for row in rows]
 
 
 def sign():

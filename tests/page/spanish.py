@@ -60,6 +60,8 @@ def selections(session):
         '3 diferencias entre sus selecciones', 'Solo en small-ballot.json: la selección candidato por escrito',
         'Solo en otro.json: la selección candidato por escrito (lugar 3)',
         'La selección Candidato “Cy” (local-level K3) difiere en la marca de candidato por escrito (IsWriteIn).'])
+    session.equal('Spanish: the values of a selection', session.texts('[aria-labelledby="first-difference"] tbody:last-child :is(th, td)'),
+                  ['Candidato “Cy” (local-level K3): la marca de candidato por escrito (IsWriteIn)', 'no está', '', '', '≠difiere:false'])
     session.has('Spanish: things have articles', session.text('#first-difference + .sentence'), 'La contienda “')
     speak(session, 'en')
 
