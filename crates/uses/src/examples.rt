@@ -3,6 +3,7 @@
 //! `call()?` may be asked of the result, as `call() == Ok(..)`: the proof takes a third of the time.
 mod ballots;
 mod bytes;
+mod class_tables;
 mod data;
 mod engines;
 mod index;
@@ -11,7 +12,6 @@ mod prepare;
 mod reports;
 mod shapes;
 mod shown;
-mod tables;
 mod text_pieces;
 mod texts;
 mod words;

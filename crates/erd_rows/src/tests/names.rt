@@ -1,7 +1,7 @@
 //! The names of selections: their order, and the selections that they find.
 use crate::tests::answers::{Answer, right_if};
 use crate::tests::edits::{BALLOT, BALLOT_FORM, Base, Edit, Edited, VENDOR_BALLOT, made};
-use crate::tests::orders::numbers_in_order;
+use crate::tests::in_order::numbers_in_order;
 use crate::tests::report_calls::{Checked, on_report};
 use crate::tests::runs::PLAIN;
 use crate::tests::vectors::{SMALL_BALLOT, SMALL_BALLOT_CANONICAL};
