@@ -46,7 +46,7 @@ def rows(session):
         ('gp-1',), tuple(f'gp-{number}' for number in range(1, 7)))]
     session.judged(*(written(session, f'{side}.json', one) for side, one in zip(('left', 'right'), pair)))
     lines = session.texts('[data-filed] li > div')
-    session.equal('filed: how many rows there are more', [len(lines), lines[-1]], [4, answers.say('record.more', count=2)])
+    session.equal('filed: how many rows there are more', [len(lines), lines[-1]], [4, answers.say('difference.moreLines', count=2)])
 
 
 def order(session):

@@ -147,6 +147,9 @@ const LISTS = {
         { ...DIFFERENCES['a ballot whose lines are the same'], number: 1 }], { count: 2, listed: 2 }, NAMES),
     'filed values of selections': differencesFiled([{ ...DIFFERENCES['values of selections'], number: 0 },
         { ...DIFFERENCES['some of what differs inside'], number: 1 }], { count: 2, listed: 2 }, NAMES),
+    'filed values of many lines': differencesFiled([{ ...INSIDE, number: 0, inside: { part: 'contest', count: 3, entries: [
+        { ...VOTES, member: 'Note', name: 'Bo', rows: [...['A', 'B', 'C', 'D'].map((one) => ({ left: line(one), right: null, same: false })), { more: 5 }] }] } }],
+    { count: 1, listed: 1 }, NAMES),
     'filed faults': faultsFiled(['/a: wrong kind', '/b: repeated'], 7, 'a.json'),
     'all faults are filed': faultsFiled(['/a: wrong kind'], 1, 'a.json'),
     'the offer of an own view': ownOffer([['fips'], []], NAMES, () => {}),

@@ -44,7 +44,7 @@ function linesOf(entry, names) {
 function valuesOf({ rows }) {
     const changed = (rows ?? []).filter(({ same }) => same === false);
     const more = changed.length - MOST_ROWS + (rows?.at(-1)?.more ?? 0);
-    return [...changed.slice(0, MOST_ROWS).flatMap(valueLines), ...(more > 0 ? [say('record.more', { count: more })] : [])];
+    return [...changed.slice(0, MOST_ROWS).flatMap(valueLines), ...(more > 0 ? [say('difference.moreLines', { count: more })] : [])];
 }
 
 function valueLines({ left, right, pieces, alike = [] }) {
