@@ -9,7 +9,7 @@ import { foundPlaces } from './places.mjs';
 import { Overview } from './overview.mjs';
 import { ownTypes, typesTold, withoutTypes } from './own_view.mjs';
 import { Preparing } from './preparing.mjs';
-import { isNoMemory, Side } from './side.mjs';
+import { Side, unlessNoMemory } from './side.mjs';
 import { readExactly } from '../../bindings/js/lib/exact.mjs';
 import { textOfKey } from '../../bindings/js/lib/order.mjs';
 import { trailOf } from './trail.mjs';
@@ -94,23 +94,16 @@ export class Judgement {
     compared(tell) {
         tell({ stage: 'comparing' });
         const [left, right] = this.sides;
-        try {
-            const compared = this.comparedAtOnce() ?? this.erd.compare(left.bytes, right.bytes, { prefer: this.prefer });
-            if (compared.side === null) {
-                this.sides.forEach((side) => (side.outcome = 'accepted'));
-            } else if (compared.side === 'left') {
-                left.take(compared);
-            } else {
-                left.outcome = 'accepted';
-                right.take(compared);
-            }
-            return compared;
-        } catch (error) {
-            if (isNoMemory(error)) {
-                return null;
-            }
-            throw error;
+        const compared = this.comparedAtOnce() ?? unlessNoMemory(() => this.erd.compare(left.bytes, right.bytes, { prefer: this.prefer }));
+        if (compared?.side === null) {
+            this.sides.forEach((side) => (side.outcome = 'accepted'));
+        } else if (compared?.side === 'left') {
+            left.take(compared);
+        } else if (compared !== null) {
+            left.outcome = 'accepted';
+            right.take(compared);
         }
+        return compared;
     }
 
     // The list of the differences of two small files that are accepted says too whether there is one, so they are compared once. Null
@@ -149,7 +142,7 @@ export class Judgement {
     /** What is known of all differences: the proved list, and what helps to read it. Null where there is no memory for the list. */
     list(_question, tell) {
         const differences = this.differencesKept(tell);
-        return differences === null ? null : differences.told(differences.hasWords ? this.unlessNoMemory(() => this.ballots(tell).seen()) : null);
+        return differences === null ? null : differences.told(differences.hasWords ? unlessNoMemory(() => this.ballots(tell).seen()) : null);
     }
 
     /** How many differences there are, and the first of them without the names of objects, as soon as the proved code has them; null where
@@ -182,33 +175,21 @@ export class Judgement {
     differencesOf({ differences, allDifferences }, tell) {
         const forms = this.sides.map((side) => side.canonical(this.erd, this.prefer, tell));
         const isNamed = !forms.includes(null) && forms[0].length + forms[1].length <= MOST_WITH_NAMES;
-        const words = isNamed ? this.unlessNoMemory(() => this.words(tell)) : null;
+        const words = isNamed ? unlessNoMemory(() => this.words(tell)) : null;
         return new Differences(differences, allDifferences, (key) => this.belowOf(key), words && words.map(({ called }) => called), this.seen);
     }
 
     // The proved list with its values, or its beginning; null if there is no memory for it.
     differencesUpTo(enoughBytes) {
         const [left, right] = this.sides;
-        return this.unlessNoMemory(() => this.erd.differencesUpTo(enoughBytes, left.bytes, right.bytes, { prefer: this.prefer, mostDifferences: MOST_LISTED }));
+        return unlessNoMemory(() => this.erd.differencesUpTo(enoughBytes, left.bytes, right.bytes, { prefer: this.prefer, mostDifferences: MOST_LISTED }));
     }
 
     // The lines of the proved code that say what differs on the ballot of a style; null if there is no memory for them.
     belowOf(key) {
-        const differing = this.unlessNoMemory(() => this.differingBallots());
+        const differing = unlessNoMemory(() => this.differingBallots());
         this.keptBelow ??= differing && new Map(differing.map((style) => [textOfKey(style.key), style.below]));
         return differing && (this.keptBelow.get(textOfKey(key)) ?? '');
-    }
-
-    // What a call answers; null if there is no memory for it.
-    unlessNoMemory(call) {
-        try {
-            return call();
-        } catch (error) {
-            if (isNoMemory(error)) {
-                return null;
-            }
-            throw error;
-        }
     }
 
     // How many objects of one file the other one has not under a type; null where the files are not accepted under it.
@@ -238,7 +219,7 @@ export class Judgement {
             return null;
         }
         tell({ stage: 'types' });
-        const under = (type) => this.unlessNoMemory(() => this.unmatched(type));
+        const under = (type) => unlessNoMemory(() => this.unmatched(type));
         const count = isWhole ? unmatchedIn(entries) : under(this.prefer);
         const better = others.map((type) => ({ type, fewer: under(type), count })).filter(({ fewer }) => fewer !== null && fewer < count);
         return better.sort((one, other) => one.fewer - other.fewer)[0] ?? null;

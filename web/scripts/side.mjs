@@ -65,13 +65,11 @@ export class Side {
     /** Judges the file by itself. */
     judge(erd, prefer, tell) {
         tell({ stage: 'checking', index: this.index });
-        try {
-            this.take(erd.canonical(this.bytes, { prefer }));
-        } catch (error) {
-            if (!isNoMemory(error)) {
-                throw error;
-            }
+        const answer = unlessNoMemory(() => erd.canonical(this.bytes, { prefer }));
+        if (answer === null) {
             this.outcome = 'noMemory';
+        } else {
+            this.take(answer);
         }
     }
 
@@ -151,17 +149,10 @@ export class Side {
         }
         if (!this.checked?.bytes) {
             tell({ stage: 'canonical', index: this.index });
-            try {
-                this.checked = erd.canonical(this.bytes, { prefer });
-            } catch (error) {
-                if (!isNoMemory(error)) {
-                    throw error;
-                }
-                this.lacksMemory = true;
-                return null;
-            }
+            this.checked = unlessNoMemory(() => erd.canonical(this.bytes, { prefer }));
+            this.lacksMemory = this.checked === null;
         }
-        return this.checked.bytes;
+        return this.checked?.bytes ?? null;
     }
 
     /**
@@ -212,9 +203,16 @@ export class Side {
     }
 }
 
-/** The call had too little memory, or the page itself had. */
-export function isNoMemory(error) {
-    return error instanceof NoMemoryError || error instanceof RangeError;
+/** What a call answers; null if it had too little memory, or if the page itself had. */
+export function unlessNoMemory(call) {
+    try {
+        return call();
+    } catch (error) {
+        if (error instanceof NoMemoryError || error instanceof RangeError) {
+            return null;
+        }
+        throw error;
+    }
 }
 
 // A fault of the report itself: it names no class.
