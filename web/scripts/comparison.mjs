@@ -3,7 +3,7 @@ import { paragraphs } from './faults.mjs';
 import { element, long, saidWith, theirs, wideTable, withWhole } from './dom.mjs';
 import { say, sayIfKnown } from './texts.mjs';
 import { textOfTriple } from './values.mjs';
-import { beginningOf, endOf } from './visible.mjs';
+import { around } from './visible.mjs';
 
 const LONGEST_LINE = 400;
 const AROUND = 80;
@@ -173,16 +173,8 @@ function differsSign() {
 function piecesShown(text, pieces) {
     const isLong = text.length > LONGEST_LINE;
     const marked = pieces.map(({ text: part, changed }, index) => (changed ? element('mark', {}, long(part, LONGEST_LINE))
-        : theirs(isLong ? around(part, index > 0, index < pieces.length - 1) : part)));
+        : theirs(isLong ? around(part, AROUND, index > 0, index < pieces.length - 1) : part)));
     return isLong ? [withWhole(text, marked)] : marked;
-}
-
-// The ends of an equal part that stand next to what differs.
-function around(text, isBehind, isBefore) {
-    if (text.length <= 2 * AROUND) {
-        return text;
-    }
-    return `${isBehind ? beginningOf(text, AROUND) : ''}…${isBefore ? endOf(text, AROUND) : ''}`;
 }
 
 function absent(key) {

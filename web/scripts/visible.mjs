@@ -55,11 +55,11 @@ const LONGEST_CHANGED = 200;
  * @param {import('./text_changes.mjs').Piece[]} pieces
  */
 export function passageOf(pieces) {
-    return pieces.map(({ text, changed }, at) => {
-        if (changed) {
-            return shortened(text, LONGEST_CHANGED);
-        }
-        const [behind, before] = [at > 0, at < pieces.length - 1];
-        return text.length <= 2 * AROUND ? text : `${behind ? beginningOf(text, AROUND) : ''}…${before ? endOf(text, AROUND) : ''}`;
-    }).join('');
+    return pieces.map(({ text, changed }, at) => (changed ? shortened(text, LONGEST_CHANGED)
+        : around(text, AROUND, at > 0, at < pieces.length - 1))).join('');
+}
+
+/** Of an equal text so many characters at each end that stands next to what differs. */
+export function around(text, most, isBehind, isBefore) {
+    return text.length <= 2 * most ? text : `${isBehind ? beginningOf(text, most) : ''}…${isBefore ? endOf(text, most) : ''}`;
 }
