@@ -7,7 +7,6 @@ import { leftOutSentence } from './seen_box.mjs';
 import { languageText, orderForReader, say, sayIfKnown } from './texts.mjs';
 
 const AT_ONCE = 100;
-const COUNTED = ['style', 'contest', 'candidate', 'party', 'office', 'person', 'header', 'unit'];
 
 /**
  * The section of the card.
@@ -56,7 +55,7 @@ function partRows({ SequenceStart: part, SequenceEnd: all }) {
 }
 
 function countsText(counts, precincts) {
-    const shown = [['precinct', precincts], ...COUNTED.map((part) => [part, counts[part]])].filter(([, count]) => count > 0);
+    const shown = [['precinct', precincts], ...Object.entries(counts)].filter(([, count]) => count > 0);
     return shown.map(([part, count]) => say(`count.${part}`, { count })).join(', ');
 }
 
