@@ -1,6 +1,6 @@
 // The card of an accepted file: its election, what it has, and which ballot styles its precincts have.
 import { attempted } from './attempts.mjs';
-import { element, saidWith, theirs } from './dom.mjs';
+import { described, element, saidWith, theirs } from './dom.mjs';
 import { GrowingList } from './growing.mjs';
 import { folded } from './on_request.mjs';
 import { leftOutSentence } from './seen_box.mjs';
@@ -28,9 +28,9 @@ export async function cardOf(known) {
 async function fill(holder, { client, tell, sums }) {
     const { counts, precincts, unlisted, hidden } = await client.ask('overview', {}, tell);
     const languages = await client.ask('languages', {}, tell);
-    holder.append(element('dl', {}, ...sums.elections.flatMap(electionRows), ...row('card.kind', say(sums.isTest ? 'card.test' : 'card.real')),
-        ...partRows(sums.envelope), ...row('card.counts', countsText(counts, precincts.all)),
-        ...row('card.languages', languages.length === 0 ? say('record.none') : theirs(languages.map(languageText).sort(orderForReader).join(', ')))),
+    holder.append(element('dl', {}, ...sums.elections.map(electionRow), described('card.kind', say(sums.isTest ? 'card.test' : 'card.real')),
+        partRow(sums.envelope), described('card.counts', countsText(counts, precincts.all)),
+        described('card.languages', languages.length === 0 ? say('record.none') : theirs(languages.map(languageText).sort(orderForReader).join(', ')))),
         ...troubles(client, precincts, unlisted),
         precincts.all === 0 ? '' : folded({ class: 'folded' }, say('card.precincts', { count: precincts.all }), () => table(client, 'all', precincts.all)),
         ...['maybe', 'unseen'].filter((name) => hidden[name].count > 0)
@@ -38,20 +38,16 @@ async function fill(holder, { client, tell, sums }) {
                 () => hiddenList(hidden[name]))));
 }
 
-function row(key, value) {
-    return [element('div', {}, element('dt', {}, say(key)), element('dd', {}, value))];
-}
-
-function electionRows({ name, start, end, type }) {
+function electionRow({ name, start, end, type }) {
     const kind = type === undefined ? [] : [theirs(sayIfKnown(`election.${type}`) ?? type), ', '];
-    return row('record.election', element('span', {}, element('strong', {}, theirs(name)), ', ', ...kind,
+    return described('record.election', element('span', {}, element('strong', {}, theirs(name)), ', ', ...kind,
         theirs(start === end ? start : `${start} – ${end}`)));
 }
 
 // Whether the report is the whole or one of several parts.
-function partRows({ SequenceStart: part, SequenceEnd: all }) {
-    return part === undefined || all === undefined ? []
-        : row('card.part', all === '1' ? say('card.whole') : saidWith('card.partOf', { part: theirs(part), all: theirs(all) }));
+function partRow({ SequenceStart: part, SequenceEnd: all }) {
+    return part === undefined || all === undefined ? null
+        : described('card.part', all === '1' ? say('card.whole') : saidWith('card.partOf', { part: theirs(part), all: theirs(all) }));
 }
 
 function countsText(counts, precincts) {

@@ -24,6 +24,11 @@ export function element(tag, attributes, ...children) {
     return made;
 }
 
+/** What something is called, and the thing, as an entry of a list of such (`dl`). */
+export function described(key, thing) {
+    return element('div', {}, element('dt', {}, say(key)), element('dd', {}, thing));
+}
+
 /** A button with this text. */
 export function button(text, onClick, attributes = {}) {
     return element('button', { type: 'button', click: onClick, ...attributes }, text);

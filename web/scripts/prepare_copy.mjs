@@ -1,7 +1,7 @@
 // Prepares a copy of a refused file: the steps that apply, what each would change, and what is done with the copy.
 import { Cancelled } from './client.mjs';
 import { documentButton } from './documents.mjs';
-import { button, element, saidWith, save, theirs } from './dom.mjs';
+import { button, described, element, saidWith, save, theirs } from './dom.mjs';
 import { where } from './faults.mjs';
 import { plainName } from './from_xml/shown.mjs';
 import { sumShown } from './sums.mjs';
@@ -167,8 +167,7 @@ function moreOf(made, count) {
 // The first changes of a step, before and after.
 function preview({ name, made, count }) {
     const rows = made.map(({ before, after, ...place }) => element('li', {}, where(place), element('dl', { class: 'change' },
-        element('div', {}, element('dt', {}, say('prepare.before')), element('dd', {}, valueShown(before))),
-        element('div', {}, element('dt', {}, say('prepare.after')), element('dd', {}, valueShown(after))))));
+        described('prepare.before', valueShown(before)), described('prepare.after', valueShown(after)))));
     return element('details', { 'data-preview': name }, element('summary', {}, say('prepare.preview')), element('ol', {}, ...rows),
         moreOf(made, count));
 }

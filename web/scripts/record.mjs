@@ -1,5 +1,5 @@
 // The record of a judgement: what two offices read to each other, and what is printed and filed.
-import { button, element, long, save, saidWith, theirs } from './dom.mjs';
+import { button, described, element, long, save, saidWith, theirs } from './dom.mjs';
 import { ENVELOPE } from './envelope.mjs';
 import { ownSentence } from './difference_list.mjs';
 import { convertedRecorded, savedName } from './from_xml/shown.mjs';
@@ -25,12 +25,12 @@ export function recordOf(known, client) {
     return element('section', { class: 'record', 'aria-labelledby': 'record' },
         element('h3', { id: 'record' }, say(names.length === 1 ? 'record.ofCheck' : 'record.ofComparison')),
         files.some((file) => file.canonical) ? element('p', { class: 'screen' }, say('record.phone')) : null,
-        element('dl', {}, ...entry('record.verdict', element('strong', {}, known.verdict)),
-            ...(known.ownView ? entry('record.own', ownSentence(known.ownView)) : []),
-            ...(known.listed?.seen ? entry('record.seen', element('strong', {}, seenSentence(known.listed))) : []), ...rows.flat(),
-            ...entry('record.prefer', known.prefer === null ? say('prefer.none') : theirs(known.prefer)),
-            ...entry('record.date', dateText(known.date)), ...entry('record.version', `erd ${known.version}`),
-            ...entry('record.page', sumShown(known.pageSum, 'page', false))),
+        element('dl', {}, described('record.verdict', element('strong', {}, known.verdict)),
+            known.ownView ? described('record.own', ownSentence(known.ownView)) : null,
+            known.listed?.seen ? described('record.seen', element('strong', {}, seenSentence(known.listed))) : null, ...rows.flat(),
+            described('record.prefer', known.prefer === null ? say('prefer.none') : theirs(known.prefer)),
+            described('record.date', dateText(known.date)), described('record.version', `erd ${known.version}`),
+            described('record.page', sumShown(known.pageSum, 'page', false))),
         filed(known), buttons(files, names, client));
 }
 
@@ -54,14 +54,14 @@ function fileRows(file, name, index, count) {
         element('dd', {}, theirs(name), ` (${say('bytes', { count: file.size })})`));
     return [
         heading,
-        ...(file.elections ?? []).flatMap((election) => entry('record.election', electionShown(election))),
-        ...(file.isTest ? entry('record.test', say('record.isTest')) : []),
-        ...(count === 1 ? [] : entry('record.outcome', say(`verdict.${file.outcome}`, { count: file.faults ?? 0 }))),
-        ...(file.sha256 === undefined ? [] : entry('record.fileSum', sumShown(file.sha256, 'file', false))),
-        ...convertedRecorded(file.conversion).flatMap(([key, value]) => entry(key, value)),
-        ...(file.canonical === undefined ? [] : entry('record.formSum', sumShown(file.canonical.sha256, 'form', true))),
-        ...(file.copied === undefined ? [] : copyRecorded(file.copied).flatMap(([key, value]) => entry(key, value))),
-        ...(file.envelope === undefined ? [] : entry('record.envelope', envelopeText(file.envelope))),
+        ...(file.elections ?? []).map((election) => described('record.election', electionShown(election))),
+        file.isTest ? described('record.test', say('record.isTest')) : null,
+        count === 1 ? null : described('record.outcome', say(`verdict.${file.outcome}`, { count: file.faults ?? 0 })),
+        file.sha256 === undefined ? null : described('record.fileSum', sumShown(file.sha256, 'file', false)),
+        ...convertedRecorded(file.conversion).map((one) => described(...one)),
+        file.canonical === undefined ? null : described('record.formSum', sumShown(file.canonical.sha256, 'form', true)),
+        ...(file.copied === undefined ? [] : copyRecorded(file.copied).map((one) => described(...one))),
+        file.envelope === undefined ? null : described('record.envelope', envelopeText(file.envelope)),
     ];
 }
 
@@ -74,10 +74,6 @@ function envelopeText(envelope) {
     const parts = ENVELOPE.filter((name) => Object.hasOwn(envelope, name))
         .map((name, at) => element('span', {}, at === 0 ? '' : '; ', `${name}: `, long(envelope[name], LONGEST_MEMBER)));
     return element('span', { class: 'envelope-filed' }, ...parts.length === 0 ? [say('record.none')] : parts);
-}
-
-function entry(key, value) {
-    return [element('div', {}, element('dt', {}, say(key)), element('dd', {}, value))];
 }
 
 function signatures() {

@@ -1,5 +1,5 @@
 // What the page shows of a file that was converted from XML: beside the verdict, in the record, and of one that was not.
-import { button, element, long, save, saidWith, theirs } from '../dom.mjs';
+import { button, described, element, long, save, saidWith, theirs } from '../dom.mjs';
 import { notice } from '../notices.mjs';
 import { sumShown } from '../sums.mjs';
 import { say } from '../texts.mjs';
@@ -50,7 +50,7 @@ function formNotice(converted, name, index, client) {
 
 function sumsOf({ sha256, form }) {
     return [['record.fileSum', sumShown(sha256, 'file', false)], ['record.convertedSum', sumShown(form.sha256, 'converted', false)]]
-        .map(([key, value]) => element('div', {}, element('dt', {}, say(key)), element('dd', {}, value)));
+        .map((one) => described(...one));
 }
 
 function toldNotices({ told, allTold }, name, index) {
