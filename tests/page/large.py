@@ -53,14 +53,18 @@ def alive(session):
 
 
 def stages(session):
-    """Another file of 25 MB, which is given up: what is done is told, and a button stops it."""
-    session.fresh()
-    session.choose(0, session.large)
-    stage = session.browser.until("""
-        return document.getElementById('progress').hidden ? '' : document.getElementById('stage').textContent;""")
+    """Another file of 25 MB, which is given up: what is done is told, and a button stops it. On a busy machine the verdict can be there before
+    the button is pressed, which is then tried again."""
+    verdicts = []
+    while len(verdicts) < TRIES and 'Cancelled' not in verdicts:
+        session.fresh()
+        session.choose(0, session.large)
+        stage = session.browser.until("""
+            return document.getElementById('progress').hidden ? '' : document.getElementById('stage').textContent;""")
+        session.click('#cancel')
+        verdicts.append(session.verdict())
     session.said('25 MB: the stage', '' if session.large.name in stage or stage == 'Working' else stage)
-    session.click('#cancel')
-    session.becomes('25 MB: cancelled', session.verdict, 'Cancelled')
+    session.equal('25 MB: cancelled', verdicts[-1], 'Cancelled')
     session.choose(0, COUNTY)
     session.becomes('a file after that', session.verdict, 'Accepted')
 
