@@ -103,7 +103,7 @@ for crate in $(grep -l '^gate: ' $(grep -lx 'noticed by: a contract' tests/bodie
     [[ $tried == *" $crate "* ]] || missing "tests/bodies/lists/$crate.txt: the wrong bodies of the gate are not tried"
 done
 
-lane 'proved: erd_canon' 'tests/library/c_library.sh' 'python3 tests/library/lists_agree.py 500'
+lane 'proved: erd_canon' 'tests/library/c_library.sh' 'python3 tests/library/lists_agree.py 500' 'python3 tests/library/ballots_agree.py 200'
 
 # The packages of both languages take the forms that are made first, and stand beside the programs for other machines. A release makes
 # the packages too, so it comes when they are done.

@@ -22,20 +22,20 @@ class Piece(ctypes.Structure):
 
 class Library:
     """The calls of the library at a path. Each takes the bytes of its reports and a preferred type of identifier or None, and
-    returns the outcome and the text, or None where there is none."""
+    returns the outcome and the text, or None where there is none. Some calls for ballots take positions too."""
 
     def __init__(self, path):
         self.library = ctypes.CDLL(path)
         self.library.erd_free.argtypes = [ctypes.c_void_p]
         self.library.erd_free.restype = None
 
-    def call(self, name, reports, prefer):
+    def call(self, name, reports, prefer, *positions):
         call = getattr(self.library, name)
         call.argtypes = [ctypes.c_char_p, ctypes.c_size_t] * len(reports) + [
-            ctypes.c_char_p, ctypes.POINTER(ctypes.c_void_p), ctypes.POINTER(ctypes.c_size_t)]
+            ctypes.c_char_p, *[ctypes.c_size_t] * len(positions), ctypes.POINTER(ctypes.c_void_p), ctypes.POINTER(ctypes.c_size_t)]
         given = [part for report in reports for part in (report, len(report))]
         text, length = ctypes.c_void_p(), ctypes.c_size_t()
-        outcome = call(*given, prefer, ctypes.byref(text), ctypes.byref(length))
+        outcome = call(*given, prefer, *positions, ctypes.byref(text), ctypes.byref(length))
         found = ctypes.string_at(text, length.value).decode() if text else None
         self.library.erd_free(text)
         assert (found is None) == (outcome >= TEXTLESS), f"outcome {outcome} with the text {found!r}"

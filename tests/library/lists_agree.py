@@ -116,7 +116,8 @@ def with_selections(base, dice, most):
 
 def drop_references(content, kept):
     for entry in content:
-        drop_references(entry.get('OrderedContent', []), kept)
+        # A contest on a ballot may carry a member of this name.
+        drop_references(entry.get('OrderedContent', []) if 'HeaderId' in entry else [], kept)
         if 'OrderedContestSelectionIds' in entry:
             entry['OrderedContestSelectionIds'] = [it for it in entry['OrderedContestSelectionIds'] if it in kept]
 
