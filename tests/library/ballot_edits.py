@@ -1,7 +1,8 @@
 """Random reports with many kinds of ballots, and edits of them. Most of what is made is accepted."""
 import copy
 
-from reports import CLASS, OF_ELECTIONS, candidate, contest, election, identifier, label, named, ordered_contest, report, selection, style, \
+from erd_reference import FAMILIES, member_of
+from reports import CLASS, OF_ELECTIONS, candidate, contest, election, identifier, label, named, ordered_contest, places, report, selection, style, \
     translation, unit
 
 CONTESTS = ['CandidateContest', 'CandidateContest', 'BallotMeasureContest', 'RetentionContest', 'PartyContest']
@@ -295,3 +296,33 @@ def with_ballots(base, dice, most):
     for _ in range(dice.randrange(most + 1)):
         getattr(edits, dice.choice(EDITS))()
     return changed
+
+
+# ---- one member
+
+
+WORDED = [name for family in ('unit', 'party', 'person', 'office', 'header', 'candidate', 'contest', 'selection') for name in FAMILIES[family]]
+
+
+def each_change(whole):
+    """For each member of an object of which ballots may print something: its class and its name, and the report where it is gone. One that
+    is required has the value that it has elsewhere, or a greater number."""
+    for at, thing in enumerate(places(whole)):
+        class_name = thing.get('@type', '')[len(CLASS):] if isinstance(thing, dict) else ''
+        for name in thing if class_name in WORDED else []:
+            if name not in ('@id', '@type', 'ExternalIdentifier', 'ContestSelection'):
+                changed = copy.deepcopy(whole)
+                change_member(changed, places(changed)[at], name, member_of(class_name, name).required)
+                yield f'{class_name} {name}', changed
+
+
+def change_member(whole, thing, name, is_required):
+    holders = [it for it in places(whole) if isinstance(it, dict)]
+    found = [it[name] for it in holders if name in it] + [entry for it in holders for entry in it.get(name + 's', [])]
+    others = [value for value in found if value != thing[name]]
+    if not is_required:
+        del thing[name]
+    elif others:
+        thing[name] = others[0]
+    elif isinstance(thing[name], int):
+        thing[name] += 1

@@ -6,7 +6,7 @@ usage: ballots_agree.py COUNT [SEED]
 
 LIBRARY names the shared library, if it is not the one that is made of out/c/liberd.a here. Most reports are those of
 tests/library/ballot_edits.py. At a difference it prints both reports and both answers. First it tries wrong answers, each of which has to
-be noticed (tests/library/ballots_wrong.py).
+be noticed (tests/library/ballots_wrong.py), and each member alone.
 """
 import collections
 import json
@@ -21,7 +21,7 @@ sys.dont_write_bytecode = True
 import ballots_wrong  # noqa: E402
 import erd_reference  # noqa: E402
 from agrees_with_reference import EXAMPLES, HARMLESS, TYPES, edited, types_in, with_elections, written  # noqa: E402
-from ballot_edits import Made, with_ballots  # noqa: E402
+from ballot_edits import Made, each_change, with_ballots  # noqa: E402
 from ballot_rows import failure_of_beside  # noqa: E402
 from erd_ballots import Ballots, TwoReports, compact_text  # noqa: E402
 from by_ctypes import Library  # noqa: E402
@@ -165,6 +165,22 @@ class Tried:
         return next(filter(None, (self.failure_of_pair(*places) for places in [*tried, (NOWHERE, 0)])), None)
 
 
+def failure_of_members(library):
+    """What is wrong where a single member is another one, or None. The ballot is that of the report that has every member, and all get it."""
+    whole = json.loads((ROOT / 'conformance' / 'cases' / 'bases' / 'every-member.json').read_text(encoding='utf-8'))
+    for style in whole['Election'][0]['BallotStyle']:
+        style.update(GpUnitIds=[it['@id'] for it in whole['GpUnit']], PartyIds=[it['@id'] for it in whole['Party']])
+    whole['Election'][0]['Contest'][0]['ElectionDistrictId'] = whole['GpUnit'][0]['@id']
+    seen = collections.Counter()
+    for what, changed in each_change(whole):
+        tried = Tried(library, [json.dumps(side).encode() for side in (whole, changed)], None)
+        why = tried.failure_of_refusal() if None in tried.sides else tried.failure_of_differences()
+        if why:
+            return f'{what}: {why}'
+        seen += tried.seen
+    return None if seen['different'] > 100 and seen['same'] > 10 else f'too few: {seen}'
+
+
 def main():
     count = int(sys.argv[1])
     seed = int(sys.argv[2]) if len(sys.argv) > 2 else random.randrange(10 ** 6)
@@ -173,7 +189,7 @@ def main():
     dice, seen = random.Random(seed), collections.Counter()
     with tempfile.TemporaryDirectory() as folder:
         library = Library(shared_library(folder))
-        for what, why in ballots_wrong.tried(library, Tried):
+        for what, why in [*ballots_wrong.tried(library, Tried), ('a single member', failure_of_members(library))]:
             if why:
                 print(f'FAILED  {what}: {why}', '0 passed, 1 failed', sep='\n')
                 return 1
