@@ -283,7 +283,7 @@ enum erd_outcome erd_ballot(const void *bytes, size_t size, const char *prefer, 
  * `left` and `right` are the positions of the style, or null. `below` has the lines that say what differs on its ballots, each ended by
  * one line feed: none if only one report has the style. The outcome is ERD_GOOD if the array is empty, and ERD_BAD if it is
  * not. If a report is refused, the text is that of erd_compare_data. Ballots are the same if their texts of erd_ballot are, whichever
- * elections hold them, and they print the same words of contests, headers, selections, candidates, parties and units:
+ * elections hold them, and they print the same words of contests, headers, selections, candidates, persons, parties and units:
  * erd_differences tells what differs. */
 enum erd_outcome erd_ballot_differences(const void *left, size_t left_size, const void *right, size_t right_size,
                                         const char *prefer, char **text, size_t *length);

@@ -322,8 +322,8 @@ export class Erd {
      */
     words(report: Report, options?: WordsOptions): WordList;
     /**
-     * Tells which ballots are not the same in two reports: in their lines, their voters, or the words of contests, headers, candidates
-     * and parties. `differences` tells what differs. It throws as `ballots` does.
+     * Tells which ballots are not the same in two reports: in their lines, their voters, or the words of contests, headers,
+     * selections, candidates, persons, parties and units. `differences` tells what differs. It throws as `ballots` does.
      */
     ballotDifferences(left: Report, right: Report, options?: Options): BallotDifferences;
     /**

@@ -146,8 +146,8 @@ class BallotDifferences:
 
     @property
     def same(self) -> bool:
-        """Whether both reports are accepted and have the same ballots: the same lines, voters, and words of contests, headers, candidates
-        and parties. `differences` tells what differs."""
+        """Whether both reports are accepted and have the same ballots: the same lines, voters, and words of contests, headers, selections,
+        candidates, persons, parties and units. `erd.differences` tells what differs."""
         return self.refused is None and not self.differences
 
     @property
