@@ -38,7 +38,7 @@ export class BallotList {
         this.languages = await this.client.ask('languages', {}, this.tell);
         this.printer = new BallotPrint({ ...this.known, isPair: this.isPair, languages: this.languages, part: (key, next) => this.part(key, next) });
         this.lists = element('div', {});
-        this.holder.append(element('p', { class: 'note' }, say('ballots.note'), ' ', this.isPair ? say('ballots.noteTwo') : ''),
+        this.holder.replaceChildren(element('p', { class: 'note' }, say('ballots.note'), ' ', this.isPair ? say('ballots.noteTwo') : ''),
             this.controls(), this.lists);
         await this.fill();
     }
