@@ -46,6 +46,7 @@ AS_REPEATS = ('rm -rf out/twin; cp -r bindings/python/src out/twin; cp contrib/r
 STEPS = [BOUNDED + 'python3 tests/prepare/steps.py']
 TABLES = 'python3 tests/pages/tables.py'
 MODULE = 'node tests/forms/javascript_module.mjs'
+REFUSALS = 'node tests/forms/javascript_refusals.mjs'
 COMMAND = 'cp -n out/portable/erd.wasm bindings/js; node tests/forms/javascript_command.mjs bindings/js'
 PACKAGE = 'tests/forms/javascript_package.sh'
 PARTS = [f'node tests/page/{name}.mjs' for name in ('parts', 'lines', 'words', 'shown', 'chosen', 'ballot_words', 'record_words', 'converted',
@@ -70,8 +71,8 @@ AREAS = {
     'bindings/python/src/erd/repeats.py': [PYTEST + 'test_calls.py', REPEATED, PYTEST + 'test_from_xml.py'],
     'bindings/python/src/erd/*.py': [*(PYTEST + f'test_{name}.py' for name in PYTHON_TESTS), LINES],
     'bindings/js/lib/prepare/*.mjs': [TABLES, MODULE, COMMAND, PACKAGE],
-    'bindings/js/lib/*.mjs': [MODULE, COMMAND, *PARTS, PACKAGE],
-    'bindings/js/*.mjs': [MODULE, COMMAND, PACKAGE],
+    'bindings/js/lib/*.mjs': [MODULE, REFUSALS, COMMAND, *PARTS, PACKAGE],
+    'bindings/js/*.mjs': [MODULE, REFUSALS, COMMAND, PACKAGE],
     'web/scripts/from_xml/*.mjs': [TABLES, *(f'node tests/page/{name}.mjs' for name in ('converted', 'shown', 'parts_told')),
                                    'tests/page/page.sh xml_form xml_agree'],
     **{f'web/scripts/{name}.mjs': [*PARTS, f'tests/page/page.sh {parts}'] for parts, names in BROWSED.items() for name in names.split()},

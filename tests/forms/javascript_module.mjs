@@ -1,40 +1,15 @@
-// Tries the module of bindings/js in this process: the whole conformance suite, and what a caller can do wrong. One line for
-// each case that fails; at the end stand the counts.
+// Tries the module of bindings/js in this process: the whole conformance suite, and what each call tells. One line for each case
+// that fails; at the end stand the counts. javascript_refusals.mjs tries what a caller can do wrong.
 import { existsSync, readdirSync, readFileSync } from 'node:fs';
-import { load, MOST_BYTES, NoMemoryError, repeatedNames, TooLongError, TrapError } from '../../bindings/js/index.mjs';
-import { statusOf } from '../../bindings/js/lib/ending.mjs';
+import { load, repeatedNames } from '../../bindings/js/index.mjs';
 import { compactText } from '../../bindings/js/lib/exact.mjs';
 import { comparePrepared, lineOfRemedy, Preparation, remedyOf, STEPS, stepsOf, told } from '../../bindings/js/lib/prepare/prepared.mjs';
 import { compactText as treeText, readTree } from '../../bindings/js/lib/tree.mjs';
 import { visible } from '../../bindings/js/lib/words.mjs';
-import { withMostPages } from '../shared/less_memory.mjs';
+import { counts, equal, throws } from './counted.mjs';
 
 const SUITE = new URL('../../out/conformance/', import.meta.url);
 const EXAMPLES = new URL('../../examples/', import.meta.url);
-let passed = 0;
-let failed = 0;
-
-function said(name, isRight, why = '') {
-    if (isRight) {
-        passed++;
-    } else {
-        failed++;
-        console.log(`FAILED  ${name}${why === '' ? '' : `: ${why}`}`);
-    }
-}
-
-function equal(name, found, wanted) {
-    said(name, found === wanted, `${JSON.stringify(found)?.slice(0, 300)} in place of ${JSON.stringify(wanted)?.slice(0, 300)}`);
-}
-
-function throws(name, kind, act) {
-    try {
-        act();
-        said(name, false, 'nothing was thrown');
-    } catch (error) {
-        said(name, error instanceof kind && error.message !== '', String(error));
-    }
-}
 
 function fileOf(folder, name) {
     const place = new URL(name, folder);
@@ -177,6 +152,10 @@ equal('all differences', `${wholeList.differences.length} ${wholeList.allDiffere
 equal('their keys', wholeList.differences.every(({ key }, index) => key[2] === `C-${10000 + index}`), true);
 equal('what differs inside each', JSON.stringify([...new Set(wholeList.differences.map(({ selections }) => JSON.stringify(selections)))]),
     JSON.stringify(['[{"name":["ElectionResults.CandidateSelection",[],false,null,null,["a","","S"]],"how":"member","member":"Note","values":{"left":1,"right":2}}]']));
+equal('the keys by pieces', [...erd.differencesByPieces(...long2500)].flatMap(({ differences }) => differences.map(({ key }) => key[2])).join(),
+    wholeList.differences.map(({ key }) => key[2]).join());
+const upTo = erd.differencesUpTo(300, ...long2500);
+equal('differences up to so many bytes', `${upTo.differences.map(({ key }) => key[2])} ${upTo.allDifferences} ${upTo.more}`, 'C-10000,C-10001 2500 true');
 equal('no values of selections', wholeList.differences.some((difference) => 'values' in difference), false);
 // The text of what differs inside each contest has 600 kB here. Two are more than a megabyte.
 const wide = [1, 2].map((note) => contests(3, note, 'a').replaceAll('"Type":"a"', `"Type":"${'a'.repeat(600_000)}"`));
@@ -188,8 +167,9 @@ equal('a request', JSON.stringify(erd.commandLine(WORDS)), '{"request":{"command
 equal('no words', JSON.stringify(erd.commandLine([])), '{"request":{"command":"filter","files":[],"json":false,"prefer":null}}');
 equal('help', erd.commandLine(['--help']).status, 0);
 equal('wrong words', erd.commandLine(['nosuch']).status, 3);
-throws('a word with a zero character', TypeError, () => erd.commandLine(['check', 'a\0b']));
-throws('a word with half a surrogate pair', TypeError, () => erd.commandLine(['check', '\ud800']));
+throws('a word with a zero character', TypeError, () => erd.commandLine(['check', 'a\0b']), 'a word has a zero character');
+throws('a word with half a surrogate pair', TypeError, () => erd.commandLine(['check', '\ud800']),
+    'a word has half a surrogate pair, so it has no form in UTF-8');
 
 // The forms of a report.
 const bytes = readFileSync(new URL('small-ballot.json', EXAMPLES));
@@ -202,6 +182,9 @@ equal('a string', erd.canonical(bytes.toString()).text, form);
 equal('the number of differences', erd.differences(bytes, bytes).allDifferences, 0);
 const [renamed] = erd.differences(bytes, bytes.toString().replace('"Governor"', '"Regent"')).differences;
 equal('what each report has', JSON.stringify(renamed.values), '{"left":"Governor","right":"Regent"}');
+// Two whole numbers that are one number of JavaScript.
+const [next] = erd.differences(...['2', '3'].map((last) => oneUnit.replace('"Name"', `"Rank":900719925474099${last},"Name"`))).differences;
+equal('what each report has past 2^53', compactText(next.values), '{"left":9007199254740992,"right":9007199254740993}');
 equal('no bytes', erd.check(new Uint8Array(0)).outcome, 'not JSON');
 const TELLING = [(report, mostFaults) => erd.check(report, { mostFaults }), (report, mostFaults) => erd.canonical(report, { mostFaults }),
     (report, mostFaults) => erd.compare(report, report, { mostFaults }), (report, mostDifferences) => erd.differences(report, report, { mostDifferences })];
@@ -211,31 +194,11 @@ equal('the report stays as it is', Buffer.compare(bytes, readFileSync(new URL('s
 equal('the preference null', erd.check(bytes, { prefer: null }).outcome, 'accepted');
 equal('the empty preference', erd.check(bytes, { prefer: '' }).outcome, 'accepted');
 
-// Wrong arguments.
-const NO_REPORTS = {
-    nothing: undefined, null: null, 'a number': 5, 'an array': [1], 'an object': {}, 'wide numbers': new Uint16Array(2),
-};
-for (const [name, wrong] of Object.entries(NO_REPORTS)) {
-    throws(`${name} as a report`, TypeError, () => erd.check(wrong));
-    throws(`${name} as the right report`, TypeError, () => erd.compare(bytes, wrong));
-}
-throws('half a surrogate pair', TypeError, () => erd.check('"\ud800"'));
-throws('options that are a text', TypeError, () => erd.check(bytes, 'fips'));
-throws('options that are null', TypeError, () => erd.check(bytes, null));
-throws('an unknown option', TypeError, () => erd.check(bytes, { preferred: 'fips' }));
-throws('a number of faults that is a text', TypeError, () => erd.check(bytes, { mostFaults: '5' }));
-throws('a number of faults below 0', TypeError, () => erd.check(bytes, { mostFaults: -1 }));
-throws('half a fault', TypeError, () => erd.compare(bytes, bytes, { mostFaults: 0.5 }));
-throws('a number of faults for a list of differences', TypeError, () => erd.differences(bytes, bytes, { mostFaults: 5 }));
-throws('a preference that is a number', TypeError, () => erd.check(bytes, { prefer: 5 }));
-throws('a preference with a zero character', TypeError, () => erd.check(bytes, { prefer: 'a\0b' }));
-throws('a preference with half a surrogate pair', TypeError, () => erd.check(bytes, { prefer: '\udc00' }));
-
 // Names that are written more than once.
 for (const { report, names } of JSON.parse(readFileSync(new URL('repeated_names.json', import.meta.url)))) {
     const name = `the repeated names of ${report}`;
     if (names === null) {
-        throws(name, SyntaxError, () => repeatedNames(report));
+        throws(name, SyntaxError, () => repeatedNames(report), 'not JSON');
     } else {
         equal(name, JSON.stringify(repeatedNames(report).map(({ pointer, times }) => [pointer, times])), JSON.stringify(names));
     }
@@ -248,71 +211,32 @@ equal('two repeated names', JSON.stringify(repeatedNames(repeated, { most: 2 }).
 const below = `{"${'n'.repeat(5_000_000)}":[${Array(3000).fill('{"a":1,"a":2}').join()}]}`;
 const few = repeatedNames(below);
 equal('repeated names with long places are fewer', JSON.stringify([few.length, few.allNames, few.more]), '[1,3000,true]');
+equal('fewer repeated names than are asked for', JSON.stringify((({ length, allNames, more }) => [length, allNames, more])(
+    repeatedNames(`{"${'n'.repeat(700_000)}":[${Array(5).fill('{"a":1,"a":2}')}]}`))), '[2,5,true]');
 equal('all repeated names with long places', repeatedNames(below, { most: null }).map(({ place }) => place[1]).join(), [...Array(3000).keys()].join());
 equal('no more repeated names', JSON.stringify([repeatedNames(repeated, { most: null }).more, repeatedNames(repeated).more]), '[false,true]');
-throws('no report with repeated names', TypeError, () => repeatedNames(5));
-
-// The limit on bytes.
-const long = new Uint8Array(MOST_BYTES + 1).fill(0x20);
-throws('too long', TooLongError, () => erd.check(long));
-throws('too long on the right', TooLongError, () => erd.compare(bytes, long));
-equal('the most bytes', erd.check(long.subarray(1)).outcome, 'not JSON');
-equal('a call after that', erd.check(bytes).outcome, 'accepted');
-
-// Memory that is refused: the same module with less memory. The next call goes on with a fresh instance.
-const PAGES = 200;
-const poor = await load(withMostPages(readFileSync(new URL('../../out/portable/erd.wasm', import.meta.url)), PAGES));
-const large = Buffer.concat([Buffer.from('['), Buffer.alloc(PAGES * 60_000, '0,'), Buffer.from('0]')]);
-throws('no memory for the bytes', NoMemoryError, () => poor.check(new Uint8Array(PAGES * 65_536)));
-throws('no memory to read them', NoMemoryError, () => poor.check(large.subarray(0, PAGES * 20_000)));
-// How a command ends that could not judge: never as one that has refused a file.
-const endings = [new NoMemoryError(), new RangeError('Invalid typed array length'), new TooLongError(), new Error('odd')];
-const statuses = [];
-for (const error of endings) {
-    statuses.push(await statusOf(() => { throw error; }));
-}
-equal('the statuses of commands that fail', statuses.join(' '), '4 4 3 3');
-equal('a call after that', poor.canonical(bytes).text, form);
-equal('the same call with memory', erd.check(large).outcome, 'refused');
-// A call that traps leaves its instance behind, and the next one begins with another. A call that ends well keeps its own.
-const real = WebAssembly.Instance;
-let instances = 0;
-let traps = false;
-WebAssembly.Instance = class {
-    constructor(...words) {
-        const { exports } = new real(...words);
-        instances++;
-        this.exports = {
-            ...exports,
-            erd_check_data_piece(...arguments_) {
-                if (traps) {
-                    throw new WebAssembly.RuntimeError('unreachable');
-                }
-                return exports.erd_check_data_piece(...arguments_);
-            },
-        };
-    }
-};
-const trapping = await load(readFileSync(new URL('../../out/portable/erd.wasm', import.meta.url)));
-trapping.check(bytes);
-trapping.check(bytes);
-equal('one instance for two calls', instances, 1);
-traps = true;
-throws('a call that traps', TrapError, () => trapping.check(bytes));
-traps = false;
-equal('a call after a trap', trapping.check(bytes).outcome, 'accepted');
-equal('another instance after a trap', instances, 2);
-WebAssembly.Instance = real;
+throws('no report with repeated names', TypeError, () => repeatedNames(5), 'the report is neither a Uint8Array, nor an ArrayBuffer, nor a text');
+throws('repeated names of what is not UTF-8', SyntaxError, () => repeatedNames(new Uint8Array([0x22, 0xff, 0x22])), 'not JSON');
 
 // A list that is longer than a piece: all of it, each entry once.
 const manyFaults = new TextEncoder().encode(`{"Odd":[${Array(60_000).fill('1.5')}],${accepted.toString().trim().slice(1)}`);
 const everyFault = erd.check(manyFaults, { mostFaults: null }).faults.filter(({ reason }) => reason === 4).map(({ place }) => place[1]);
 equal('all faults of a list that is longer than a piece', everyFault.every((position, at) => position === at) && everyFault.length, 60_000);
+// Each fault is a piece of its own, so that the last piece has one entry.
+const largeFaults = `{"${'n'.repeat(1_100_000)}":[1.5,1.5,1.5],${accepted.toString().trim().slice(1)}`;
+equal('pieces of one fault each', [...erd.checkedByPieces(largeFaults)].map(({ faults }) => faults.map(({ place }) => place[1]).join()).join('|'), '0|1|2');
+const LARGE = {
+    check: erd.check(largeFaults, { mostFaults: null }), canonical: erd.canonical(largeFaults, { mostFaults: null }),
+    compare: erd.compare(accepted, largeFaults, { mostFaults: null }), differences: erd.differences(largeFaults, accepted, { mostDifferences: null }),
+};
+equal('all faults that are pieces of their own', Object.values(LARGE).map(({ faults }) => faults.map(({ place }) => place[1]).join()).join(' '),
+    Array(4).fill('0,1,2').join(' '));
 
 // The steps that prepare a copy: the report, the names, the copy, and what is told.
 const REPORT = '"@type":"ElectionResults.ElectionReport"';
 const NULL_NOTES = { step: 'nulls', done: true, count: 1, changes: [{ pointer: '/Notes', before: 'null', after: null }], left_count: 0, left: [], more: false };
 const MARK_GONE = { ...NULL_NOTES, step: 'byte-order-mark', changes: [{ pointer: '', before: '"\ufeff"', after: null }] };
+const NUMBER = { ...NULL_NOTES, step: 'numbers', changes: [{ line: 2, column: 5, before: '1.50', after: '1.5' }] };
 const PREPARED = [
     ['a step', `{"Notes":null,${REPORT}}`, ['nulls'], `{${REPORT}}`, [NULL_NOTES]],
     ['a step that is not done', `{"Notes":null,${REPORT}}`, ['counts'], `{"Notes":null,${REPORT}}`, []],
@@ -321,6 +245,10 @@ const PREPARED = [
     ['a mark that goes', `\ufeff{"Notes":null,${REPORT}}`, stepsOf('removed'), `{${REPORT}}`, [MARK_GONE, NULL_NOTES]],
     ['a mark alone', `\ufeff{ ${REPORT}}`, ['byte-order-mark'], `{ ${REPORT}}`, [MARK_GONE]],
     ['a number that is written in another way', `{${REPORT},"a":1.50}`, ['nulls'], `{${REPORT},"a":1.50}`, []],
+    ['a number beside a step', `{"Notes":null,${REPORT},\n"a":1.50}`, ['nulls'], `{${REPORT},"a":1.5}`, [NUMBER, NULL_NOTES]],
+    ['what is left', `{${REPORT},"Party":[{"@type":"ElectionResults.Party","@id":"p"}]}`, ['names'],
+        `{${REPORT},"Party":[{"@type":"ElectionResults.Party","@id":"p"}]}`,
+        [{ ...NULL_NOTES, step: 'names', count: 0, changes: [], left_count: 1, left: [{ pointer: '/Party/0', why: 'noName' }] }]],
     ['a place of the file', `{"a/b":[1,{"x":null}],${REPORT}}`, ['nulls'], `{${REPORT},"a/b":[1,{}]}`,
         [{ ...NULL_NOTES, changes: [{ pointer: '/a~1b/1/x', before: 'null', after: null }] }]],
 ];
@@ -332,6 +260,7 @@ for (const [name, report, names, copy, done] of PREPARED) {
 }
 const others = new Preparation(encoder.encode(`\ufeff{"Notes":null,${REPORT}}`), erd).prepare([], { tellsOthers: true });
 equal('prepared: what other steps would do', others.steps.map((step) => `${step.name} ${step.done} ${step.count}`).join(), 'byte-order-mark false 1,nulls false 1');
+equal('prepared: what other steps would do is not done', new TextDecoder('utf-8', { ignoreBOM: true }).decode(others.bytes), `\ufeff{"Notes":null,${REPORT}}`);
 const aLongList = new Preparation(encoder.encode(`{${REPORT},"a":[${Array(1500).fill('{"x":null}')}]}`), erd).prepare(['nulls']).steps;
 equal('prepared: a long list', aLongList.map(({ made, count, more }) => `${made.length} ${count} ${more}`).join(), '1000 1500 true');
 const isCounted = `{"@type":"ElectionResults.CandidateSelection","VoteCounts":[{"@type":"ElectionResults.VoteCounts","Count":1}]}`;
@@ -362,10 +291,10 @@ for (const [name, names, wanted] of [['Test', ['nulls'], 'same\n'], ['Other', ['
 equal('prepared alike: the preferred type', comparePrepared(nulled('Test'), nulled('Test'), ['nulls'], erd, { prefer: 'none' }).compared.outcome, 'same');
 throws('prepared: no JSON', Error, () => new Preparation(encoder.encode('{'), erd).prepare([]));
 throws('prepared: a name that no step has', RangeError, () => new Preparation(encoder.encode('{}'), erd).prepare(['nosuch']));
-throws('prepared: a word that names nothing', RangeError, () => erd.prepared('{}', 'nulls,'));
+throws('prepared: a word that names nothing', RangeError, () => erd.prepared('{}', 'nulls,'), 'unknown step');
+throws('prepared: half a surrogate pair', TypeError, () => erd.prepared('{}', '\ud800'), 'a name has half a surrogate pair, so it has no form in UTF-8');
 throws('prepared: a zero character', RangeError, () => erd.prepared('{}', 'nulls\0'));
 equal('prepared: no JSON for the call', erd.prepared('{', 'nulls'), null);
-throws('prepared: a report that is too long', TooLongError, () => erd.prepared(new Uint8Array(MOST_BYTES + 1), ''));
 
 // Numbers as they are written, and no text that begins a line for some programs alone.
 const WRITTEN = '{"b":-1.50,"a":[-0,1E5,"\u2028"]}';
@@ -391,6 +320,16 @@ const ofTwo = fileOf(EXAMPLES, 'two-elections.vendor-a.json');
 equal('ballots: the election of each', erd.ballots(ofTwo).ballots.map(({ key, position }) => `${key[2]} ${erd.ballot(ofTwo, position).ballot.election}`).join(),
     'BS-GRANITE local-level,,2026-PRIMARY,BS-HARBOR local-level,,2026-PRIMARY,BS-MEASURES local-level,,2026-REFERENDUM');
 equal('ballots: no key of an election', erd.ballot(fileOf(EXAMPLES, 'small-ballot.json'), 0).ballot.election, null);
+const byState = (numbers) => {
+    const report = JSON.parse(county);
+    report.Election[0].BallotStyle.forEach(({ ExternalIdentifier: codes }, at) => codes.push({ ...codes[0], Type: 'state-level', Value: numbers[at] }));
+    return JSON.stringify(report);
+};
+// By the numbers of the state, two styles of the right report have one key.
+const twoOfOneNumber = ['1234', '1134'].map(byState);
+equal('ballots: the right report is refused under a preference', erd.ballotDifferences(...twoOfOneNumber, { prefer: 'state-level' }).text,
+    'right: /Election/0/BallotStyle/1: identifier used twice\n');
+equal('ballots: it is accepted without one', erd.ballotDifferences(...twoOfOneNumber).text, 'same ballots\n');
 equal('ballots: none there', erd.ballot(county, styles.length).ballot, null);
 equal('ballots: of a refused report', erd.ballots('{').text, 'not JSON\n');
 equal('ballots: the same', erd.ballotDifferences(county, other).text, 'same ballots\n');
@@ -420,11 +359,24 @@ equal('ballots: beside none', erd.ballotsBeside(county, county, at, styles.lengt
 equal('ballots: beside a refused one', (({ side, outcome, ballots }) => [side, outcome, ballots].join())(erd.ballotsBeside(county, '{', at, at)), 'right,not JSON,');
 equal('ballots: the contest with other words', [...new Set(erd.ballotDifferences(county, JSON.stringify(votes)).differences.map(({ below }) => below.join()))].join(),
     '  changed contest ["local-level","","C-SCHOOL"]');
+// A ballot with 150 contests beside one with the first of them.
+const [longBallot, shortBallot] = [150, 1].map((count) => {
+    const report = JSON.parse(contests(150, 1, 'a'));
+    report.Election[0].BallotStyle = [{
+        '@type': 'ElectionResults.BallotStyle', GpUnitIds: [report.GpUnit[0]['@id']], ExternalIdentifier: report.Election[0].Contest[0].ExternalIdentifier,
+        OrderedContent: Array.from({ length: count }, (_, index) => ({ '@type': 'ElectionResults.OrderedContest', ContestId: `contest-${index}` })),
+    }];
+    return JSON.stringify(report);
+});
+equal('ballots: all that is gone from one', erd.ballotDifferences(longBallot, shortBallot).differences[0].below.join('\n'),
+    Array.from({ length: 149 }, (_, index) => `  removed contest ["local-level","","C-${10001 + index}"]`).join('\n'));
 equal('ballots: the right report is refused', erd.ballotDifferences(county, '{').text, 'right: not JSON\n');
 // The words: of each object once, and the selections of each contest under the names that ballots have.
 const worded = erd.words(county, { mostEntries: null });
 const wordsAt = (part, value) => worded.entries.find((entry) => entry.part === part && entry.key?.[2] === value);
-equal('words: all are there', worded.entries.length, worded.allEntries);
+equal('words: all are there', `${worded.entries.length} ${worded.more}`, `${worded.allEntries} false`);
+equal('words: by pieces', JSON.stringify([...erd.wordsByPieces(county)].flatMap(({ entries }) => entries)), JSON.stringify(worded.entries));
+equal('words: their bytes', [...erd.wordsByPieces(county)].map(({ entries, size }) => size === encoder.encode(JSON.stringify(entries)).length).join(), 'true');
 equal('words: none is there twice', new Set(worded.entries.map(({ part, key }) => JSON.stringify([part, key]))).size, worded.allEntries);
 equal('words: of each part', [...new Set(worded.entries.map(({ part }) => part))].join(), 'unit,party,person,office,header,election,candidate,contest');
 const nameOf = (label) => (typeof label === 'string' ? label : label.Text.map(({ Language, Content }) => `${Language} ${Content}`).sort().join());
@@ -437,11 +389,11 @@ equal('words: the first', (({ entries, more }) => `${entries.length} ${more}`)(e
 equal('words: of a refused report', (({ outcome, entries, faults }) => [outcome, entries.length, faults.length > 0].join())(erd.words('{}')), 'refused,0,true');
 equal('words: of no JSON', erd.words('{').text, 'not JSON\n');
 throws('words: no option of another call', TypeError, () => erd.words(county, { mostFaults: 1 }));
-throws('ballots: no position', TypeError, () => erd.ballot(county, -1));
+for (const position of [-1, 0.5, '0', 2 ** 32]) {
+    for (const take of [() => erd.ballot(county, position), () => erd.ballotsBeside(county, county, position, 0), () => erd.ballotsBeside(county, county, 0, position)]) {
+        throws(`ballots: no position: ${position}`, TypeError, take, 'the position is not a whole number from 0 on');
+    }
+}
+equal('ballots: the largest position', erd.ballot(county, 2 ** 32 - 1).ballot, null);
 
-equal('the code of TrapError', new TrapError(new Error('why')).code, 'TRAP');
-equal('the code of TooLongError', new TooLongError().code, 'TOO_LONG');
-equal('the code of NoMemoryError', new NoMemoryError().code, 'NO_MEMORY');
-
-console.log(`${passed} passed, ${failed} failed`);
-process.exitCode = failed === 0 ? 0 : 1;
+counts();

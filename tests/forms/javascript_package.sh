@@ -10,8 +10,10 @@ has_wasm 'the package for JavaScript' || { counts; exit; }
 
 # The module.
 conformance/make
-node tests/forms/javascript_module.mjs > "$work/module.log" 2>&1
-counted 'the module' "$work/module.log"
+for part in module refusals; do
+    node tests/forms/javascript_$part.mjs > "$work/$part.log" 2>&1
+    counted "the module: $part" "$work/$part.log"
+done
 
 # in_fresh COMMAND ..: runs a command in a fresh folder, as a user without this repository would
 in_fresh() {
@@ -142,7 +144,7 @@ for missing in erd.wasm lib/engine.mjs; do
     rm "$work/part/$missing"
     run node "$work/part/erd.mjs" check examples/one-unit.json
     expect_text "a package without $missing" 3 ''
-    said 'it says so in one line' "$([ "$(grep -c '^erd failed: ' "$work/err")/$(wc -l < "$work/err")" = 1/1 ] || cat "$work/err")"
+    said 'it says so in one line' "$([ "$(grep -c '^erd failed: ' "$work/err")/$(wc -l < "$work/err")" = 1/1 ] || last_words "$work/err")"
     rm -r "$work/part"
 done
 # The command with less memory for the proved code.
