@@ -95,7 +95,8 @@ def test_results(top):
 
 
 @pytest.mark.parametrize('call', [erd.check, erd.canonical, lambda report: erd.compare(report, '{'), lambda report: erd.differences(report, '{'),
-                                  erd.ballots, lambda report: erd.ballot(report, 0), lambda report: erd.ballot_differences(report, '{')])
+                                  erd.ballots, lambda report: erd.ballot(report, 0), lambda report: erd.ballot_differences(report, '{'),
+                                  lambda report: erd.ballots_beside(report, '{', 0, 0), erd.words])
 def test_a_text_that_names_a_file_gets_a_hint(tmp_path, monkeypatch, recwarn, call):
     monkeypatch.chdir(tmp_path)
     (tmp_path / 'county.json').write_text('{}')
@@ -118,6 +119,17 @@ def test_a_long_list_of_faults(top):
     found = erd.check(many_faults(top, 'Remarks'), most_faults=None)
     assert (len(found.faults), found.all_faults, found.more) == (5000, 5000, False)
     assert [fault.pointer for fault in found.faults] == [f'/Remarks/{at}' for at in range(5000)]
+
+
+@pytest.mark.parametrize('faults_of', [
+    lambda report, _: erd.check(report, most_faults=None).faults, lambda report, _: erd.canonical(report, most_faults=None).check.faults,
+    lambda report, good: erd.compare(report, good, most_faults=None).check.faults,
+    lambda report, good: erd.differences(good, report, most_differences=None).check.faults,
+    lambda report, _: erd.words(report, most_entries=None).check.faults], ids=['check', 'canonical', 'compare', 'differences', 'words'])
+def test_all_faults_where_each_is_a_piece_of_its_own(top, faults_of):
+    good = (top / 'examples' / 'one-unit.json').read_text('utf-8')
+    report = good.replace('{', '{"' + 'n' * 1_100_000 + '":[1.5,1.5,1.5],', 1)
+    assert [fault.place[1] for fault in faults_of(report, good)] == [0, 1, 2]
 
 
 def test_the_first_faults(top):
