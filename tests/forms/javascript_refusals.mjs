@@ -125,6 +125,23 @@ frugal.check(bytes);
 equal('none is kept that has more bytes than are to be kept', instances, 5);
 WebAssembly.Instance = real;
 
+// Where a page loads the module, it is fetched from beside index.mjs. What a server says in its place is no module.
+const [RealURL, realFetch] = [URL, globalThis.fetch];
+globalThis.URL = class extends RealURL {
+    constructor(name) {
+        super(name, 'https://office.example/erd/index.mjs');
+    }
+};
+for (const [name, answer, wanted] of [
+    ['a module', new Response(MODULE), 'accepted'],
+    ['no module', new Response('none', { status: 404 }), 'https://office.example/erd/erd.wasm could not be read: status 404'],
+    ['no module, but a page that says so', new Response(MODULE, { status: 403 }), 'https://office.example/erd/erd.wasm could not be read: status 403'],
+]) {
+    globalThis.fetch = async () => answer;
+    equal(`a server has ${name}`, await load().then((it) => it.check(bytes).outcome, ({ message }) => message), wanted);
+}
+[globalThis.URL, globalThis.fetch] = [RealURL, realFetch];
+
 equal('the names and codes of errors',
     [new TrapError(new Error('why')), new TooLongError(), new NoMemoryError()].map(({ name, code }) => `${name} ${code}`).join(),
     'TrapError TRAP,TooLongError TOO_LONG,NoMemoryError NO_MEMORY');

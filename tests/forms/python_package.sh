@@ -7,6 +7,11 @@ set -u
 for package in pytest setuptools wheel venv; do
     /usr/bin/python3 -c "import $package" 2> /dev/null || { echo "skipped the Python package: there is no python3-$package"; counts; exit; }
 done
+# A wheel is for systems whose C library is as new as the newest version that its library needs: 2.34 is newer than 2.4.
+objdump() { printf '0 g DF *UND* 0 (GLIBC_%s) f\n' 2.4 2.34 2.2.5 2.17 2.9; }
+eval "$(sed -n '/^needed() {/,/^}/p' packaging/python.sh)"
+equal 'the newest version of the C library' "$(needed liberd.so.0)" 2_34
+unset -f objdump needed
 packaging/python.sh > "$work/wheels" || { echo "FAILED  no wheel was made"; failed=1; counts; exit; }
 wheel=$(ls out/python/*"$(uname -m)".whl)
 # pytest and distributed are those of the machine; the package is that of the wheel

@@ -131,6 +131,10 @@ equal('it has no sums', await gone.sums({}, quiet), [{}]);
 
 const example = (name) => readFileSync(new URL(`examples/${name}`, ROOT));
 const [one, two] = ['county.vendor-a.json', 'county.vendor-b.json'].map(example);
+// What is said of a file in XML is said of the file that was chosen, and not of the JSON that was made from it.
+const ofXml = await surveyed(erd, new File([one], 'a.xml'), null, { isBorn: false, size: 7, sha256: 'f'.repeat(64) });
+equal('a file that was converted has its own size and sum', [ofXml.outcome, ofXml.size, ofXml.sha256, ofXml.canonical.sha256],
+    ['accepted', 7, 'f'.repeat(64), sumOf(example('county.canonical.json'))]);
 const changed = Buffer.from(textOf(two).replace('Ingrith Sablewood', 'Ingrid Sablewood').replace('"VotesAllowed":1', '"VotesAllowed":2'));
 const pair = judgementOf([one, changed]);
 const verdict = await pair.verdict(quiet);

@@ -73,10 +73,10 @@ equal('each button saves the form of its file', [buttons.map(({ textContent }) =
     [['Save the canonical form of the first file', 'Save the canonical form of the second file'], [['canonical', { index: 0 }], ['canonical', { index: 1 }]]]);
 equal('under the name of its file', links, ['a.canonical.json', 'b.canonical.json']);
 
-// What is saved of many files is a table for each program: a cell with a comma, a quotation mark or a line feed is one cell (RFC 4180), and
-// none is a formula.
-equal('a table as CSV', csvOf([['file', 'notes', 'faults'], ['a "b", c.json', 'one\ntwo', 3], ['=1+1.json', '', '']]),
-    'file,notes,faults\r\n"a ""b"", c.json","one\ntwo",3\r\n\'=1+1.json,,\r\n');
+// What is saved of many files is a table for each program: a cell with a comma, a quotation mark or an end of a line is one cell (RFC 4180),
+// and none is a formula.
+equal('a table as CSV', csvOf([['file', 'notes', 'faults'], ['a "b", c.json', 'one\ntwo', 3], ['=1+1.json', '', ''], ['d.json', 'one\rtwo', 0]]),
+    'file,notes,faults\r\n"a ""b"", c.json","one\ntwo",3\r\n\'=1+1.json,,\r\nd.json,"one\rtwo",0\r\n');
 
 // Letters that nobody would see are marks, in every text of a file, and a text that is cut says so.
 for (const [name, text, shown] of [['a zero-width space', 'a\u200bb', 'aU+200Bb'], ['another direction', '\u202eb', 'U+202Eb'], ['a no-break space', 'a\u00a0b', 'aU+00A0b'],

@@ -333,6 +333,9 @@ refused 'a name that git could read as a stage' 0:x.json
 rm ballots/latest.json
 faulty ballots/latest.json
 refused 'a link that becomes a file' ballots/latest.json
+faulty ballots/runs.json
+chmod +x ballots/runs.json
+refused 'a file that may be run as a program' ballots/runs.json
 git mv ballots/county.json ballots/renamed.json
 faulty ballots/renamed.json
 refused 'a file of another name' ballots/renamed.json

@@ -198,6 +198,20 @@ def test_a_preferred_type(top):
         assert erd.ballot_differences(data, data, prefer=prefer).same
 
 
+def test_two_ballots_under_a_preferred_type(top):
+    """The first style is gone on the right. Each style, contest and header has a number of the state too."""
+    left = json.loads((top / 'examples' / 'county.vendor-a.json').read_text(encoding='utf-8'))
+    for letter, name in (('S', 'BallotStyle'), ('C', 'Contest'), ('H', 'Header')):
+        for number, it in enumerate({**left, **left['Election'][0]}[name]):
+            it['ExternalIdentifier'].append({'@type': 'ElectionResults.ExternalIdentifier', 'Type': 'state-level', 'Value': f'{letter}-{number}'})
+    right = json.loads(json.dumps(left))
+    del right['Election'][0]['BallotStyle'][0]
+    one, other = json.dumps(left), json.dumps(right)
+    assert [it.key for it in erd.ballot_differences(one, other, prefer='state-level').differences] == [('state-level', '', 'S-0')]
+    beside = erd.ballots_beside(one, other, 1, 0, prefer='state-level')
+    assert beside.left and {line.key[0] for line in beside.left + beside.right} == {'state-level'}
+
+
 def run(*words):
     done = subprocess.run([sys.executable, '-m', 'erd', 'ballots', *map(str, words)], capture_output=True, stdin=subprocess.DEVNULL)
     return done.returncode, done.stdout.decode('utf-8'), done.stderr.decode('utf-8')
