@@ -2,7 +2,7 @@
 // the folder of the package with its erd.wasm. It takes each case of two reports and each case with a preference, which tell
 // exchanged files and a lost preference, and some files of its own; tests/forms/javascript_package.sh starts the command itself. One line
 // for each case that fails; at the end stand the counts.
-import fs, { existsSync, mkdtempSync, readdirSync, readFileSync, rmSync, truncateSync, writeFileSync } from 'node:fs';
+import fs, { existsSync, mkdtempSync, readdirSync, readFileSync, rmSync, statSync, truncateSync, writeFileSync } from 'node:fs';
 import { syncBuiltinESMExports } from 'node:module';
 import { tmpdir } from 'node:os';
 import { join, resolve } from 'node:path';
@@ -17,8 +17,10 @@ let passed = 0;
 let runs = 0;
 
 // What the command writes is kept. What is named here hinders a read or a write, each once, and a write may take a part of the bytes.
-const { readSync, writeSync } = fs;
+// Standard output is what `output` says, if anything: whether it is a device, which one, and whether it can be read.
+const { fstatSync, readSync, writeSync } = fs;
 let written = [];
+let output = null;
 let hindrances = { read: [], write: [] };
 let mostWritten = Infinity;
 function hindered(way) {
@@ -27,10 +29,14 @@ function hindered(way) {
         throw Object.assign(new Error(code), { code });
     }
 }
-fs.readSync = (...words) => {
+fs.readSync = (handle, ...words) => {
     hindered('read');
-    return readSync(...words);
+    if (handle === 1 && output !== null) {
+        return output.canBeRead ? 0 : readSync(-1);
+    }
+    return readSync(handle, ...words);
 };
+fs.fstatSync = (handle) => (handle === 1 && output !== null ? { isCharacterDevice: () => output.isDevice, rdev: output.rdev } : fstatSync(handle));
 fs.writeSync = (handle, bytes) => {
     hindered('write');
     const taken = Buffer.from(bytes).subarray(0, mostWritten);
@@ -38,6 +44,14 @@ fs.writeSync = (handle, bytes) => {
     return taken.length;
 };
 syncBuiltinESMExports();
+
+// How often something was waited for.
+const { wait } = Atomics;
+let waits = 0;
+Atomics.wait = (...words) => {
+    waits++;
+    return wait(...words);
+};
 
 // The module is compiled once.
 const { compile } = WebAssembly;
@@ -53,13 +67,17 @@ async function ran(words) {
     return [process.exitCode, written[1], written[2]];
 }
 
-async function tryRun(name, words, wanted) {
-    const found = await ran(words);
-    if (JSON.stringify(found) === JSON.stringify(wanted)) {
+function said(name, isRight, why) {
+    if (isRight) {
         passed++;
     } else {
-        failures.push(`${name}: ${words[0]}: ${JSON.stringify(found).slice(0, 300)} in place of ${JSON.stringify(wanted).slice(0, 300)}`);
+        failures.push(`${name}: ${why}`);
     }
+}
+
+async function tryRun(name, words, wanted) {
+    const [found, right] = [await ran(words), wanted].map((it) => JSON.stringify(it));
+    said(name, found === right, `${words[0]}: ${found.slice(0, 300)} in place of ${right.slice(0, 300)}`);
 }
 
 function textOf(folder, name) {
@@ -107,6 +125,41 @@ const faults = ['/Election: wrong number of elections', ...Array.from({ length: 
 const accepted = join(SUITE, 'canonical-one-unit', 'input.json');
 await tryRun('ballots of a report with many faults', ['ballots', accepted, report], [1, faults.map((line) => `right: ${line}\n`).join(''), '']);
 
+// Help goes to standard output, and what is said of wrong words to standard error.
+for (const [words, ...wanted] of [
+    [['--help'], 0, /^Puts a pre-election ballot definition /, /^$/],
+    [['nosuch'], 3, /^$/, /^error: unrecognized subcommand 'nosuch'\n/],
+]) {
+    const [status, ...texts] = await ran(words);
+    said(`the text for ${words}`, status === wanted[0] && texts.every((text, at) => wanted[at + 1].test(text)), `${status} ${texts.join('|').slice(0, 300)}`);
+}
+
+// An answer as JSON is a line, with the status that its lines have.
+const NAMELESS = '[{"name":"@type","place":[],"reason":2}]';
+for (const [text, words, wanted] of [
+    ['{}', ['check', '--json', accepted], [0, '[]\n', '']],
+    ['{}', ['check', '--json', report], [1, `${NAMELESS}\n`, '']],
+    ['{', ['check', '--json', report], [2, '"not JSON"\n', '']],
+    ['{}', ['compare', '--json', accepted, accepted], [0, 'null\n', '']],
+    ['{}', ['ballots', '--json', accepted, report], [1, `{"faults":${NAMELESS},"refused":"right"}\n`, '']],
+]) {
+    writeFileSync(report, text);
+    await tryRun(`as JSON: ${words.length} words, ${text}`, words, wanted);
+}
+
+// Node opens the null device, for reading too, in the place of an output that was closed before. A form would be lost there.
+const NULL_DEVICE = statSync('/dev/null').rdev;
+const [LOST, FORM] = [[3, '', 'write failed\n'], [0, textOf(join(SUITE, 'canonical-one-unit'), 'canonical.json'), '']];
+for (const [name, isDevice, rdev, canBeRead, wanted] of [
+    ['an output that was closed', true, NULL_DEVICE, true, LOST], ['the null device of a shell', true, NULL_DEVICE, false, FORM],
+    ['a terminal', true, NULL_DEVICE + 1, true, FORM], ['a socket', false, NULL_DEVICE, true, FORM],
+]) {
+    output = { isDevice, rdev, canBeRead };
+    await tryRun(`a form for ${name}`, ['canon', accepted], wanted);
+    await tryRun(`a verdict for ${name}`, ['check', accepted], [0, 'accepted\n', '']);
+}
+output = null;
+
 // Pipes that are not ready, the end of a pipe on Windows, and what fails. The file is read at once, and a second read finds its end.
 for (const [name, read, write, wanted] of [
     ['a pipe that is not ready', ['EAGAIN', 'EAGAIN', '', 'EAGAIN'], [], [0, 'accepted\n', '']],
@@ -118,6 +171,7 @@ for (const [name, read, write, wanted] of [
     hindrances = { read, write };
     await tryRun(name, ['check', accepted], wanted);
 }
+said('what is not ready is waited for', waits === 5, `${waits} times`);
 mostWritten = 4;
 await tryRun('an output that takes a part at a time', ['check', accepted], [0, 'accepted\n', '']);
 mostWritten = Infinity;
@@ -126,11 +180,7 @@ mostWritten = Infinity;
 writeFileSync(report, '{"Notes":null}');
 const [status, told] = await ran(['prepare', '--report', '--steps', 'codes', report]);
 const [{ step, done, count } = {}] = status === 0 ? JSON.parse(told) : [];
-if (step === 'nulls' && done === false && count === 1) {
-    passed++;
-} else {
-    failures.push(`the report on steps that were not done: ${status} ${told.slice(0, 300)}`);
-}
+said('the report on steps that were not done', step === 'nulls' && done === false && count === 1, `${status} ${told.slice(0, 300)}`);
 rmSync(room, { recursive: true });
 
 writeSync(1, failures.map((failure) => `FAILED  ${failure}\n`).join('') + `${passed} passed, ${failures.length} failed\n`);

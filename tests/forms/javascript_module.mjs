@@ -204,17 +204,18 @@ for (const { report, names } of JSON.parse(readFileSync(new URL('repeated_names.
     }
 }
 const repeated = `[${Array(1001).fill('{"a":1,"a":2}')}]`;
-equal('the first 1,000 repeated names', repeatedNames(repeated).length, 1000);
-equal('all repeated names', repeatedNames(repeated, { most: null }).length, 1001);
+equal('the first 1,000 repeated names, and all', [undefined, { most: null }].map((it) => (({ length, more }) => `${length} ${more}`)(repeatedNames(repeated, it))).join(),
+    '1000 true,1001 false');
 equal('two repeated names', JSON.stringify(repeatedNames(repeated, { most: 2 }).map(({ place }) => place)), '[[0,"a"],[1,"a"]]');
 // Names below a long one: together, their places grow with the square of the report's size.
 const below = `{"${'n'.repeat(5_000_000)}":[${Array(3000).fill('{"a":1,"a":2}').join()}]}`;
 const few = repeatedNames(below);
 equal('repeated names with long places are fewer', JSON.stringify([few.length, few.allNames, few.more]), '[1,3000,true]');
-equal('fewer repeated names than are asked for', JSON.stringify((({ length, allNames, more }) => [length, allNames, more])(
-    repeatedNames(`{"${'n'.repeat(700_000)}":[${Array(5).fill('{"a":1,"a":2}')}]}`))), '[2,5,true]');
+for (const [size, wanted] of [[700_000, 2], [2 ** 20 - 6, 2], [2 ** 20 - 5, 1]]) {
+    const { length, allNames, more } = repeatedNames(`{"${'n'.repeat(size)}":[${Array(5).fill('{"a":1,"a":2}')}]}`);
+    equal(`fewer repeated names than are asked for, below ${size} letters`, `${length} ${allNames} ${more}`, `${wanted} 5 true`);
+}
 equal('all repeated names with long places', repeatedNames(below, { most: null }).map(({ place }) => place[1]).join(), [...Array(3000).keys()].join());
-equal('no more repeated names', JSON.stringify([repeatedNames(repeated, { most: null }).more, repeatedNames(repeated).more]), '[false,true]');
 throws('no report with repeated names', TypeError, () => repeatedNames(5), 'the report is neither a Uint8Array, nor an ArrayBuffer, nor a text');
 throws('repeated names of what is not UTF-8', SyntaxError, () => repeatedNames(new Uint8Array([0x22, 0xff, 0x22])), 'not JSON');
 
@@ -395,5 +396,4 @@ for (const position of [-1, 0.5, '0', 2 ** 32]) {
     }
 }
 equal('ballots: the largest position', erd.ballot(county, 2 ** 32 - 1).ballot, null);
-
 counts();

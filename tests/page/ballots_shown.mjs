@@ -4,6 +4,7 @@ import { below } from './elements.mjs';
 import { BallotList } from '../../web/scripts/ballot_list.mjs';
 import { BallotSentences } from '../../web/scripts/ballot_sentences.mjs';
 import { Sheets } from '../../web/scripts/sheets.mjs';
+import { orderOfKeys } from '../../bindings/js/lib/order.mjs';
 import { counts, equal } from './counted.mjs';
 
 const [ONE, OTHER] = ['a', 'b'].map((digit) => digit.repeat(64));
@@ -192,4 +193,7 @@ for (const by of [1, 1, -1, -1, -1]) {
     steps.push(open());
 }
 equal('sentences: the next one, and the one before', steps, ['open - -', '- open -', 'open - -', '- - -', '- - open']);
+// Ballots stand in the rising order of the keys of their styles, part by part, by the bytes in UTF-8. Those without a key come first.
+const RISING = [null, null, ['fips', '', '10'], ['fips', '', '2'], ['fips', '', '2a'], ['fips', '', '\uffee'], ['fips', '', '\u{1f5f3}'], ['local-level', '', '1']];
+equal('the order of keys', [[...RISING].reverse().sort(orderOfKeys), [...RISING.slice(3), ...RISING.slice(0, 3)].sort(orderOfKeys)], [RISING, RISING]);
 counts();

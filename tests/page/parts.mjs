@@ -46,8 +46,8 @@ const NOT_JSON = {
     'a name without quotes': ['{a:1}', 'nameExpected', 1], 'two values': ['1 2', 'moreAfterEnd', 2], 'an early end': ['[1', 'endsEarly', 2],
     'the XML form': ['<?xml version="1.0"?>\n<er:ElectionReport>', 'markup', null], 'UTF-16': [new Uint8Array([0xff, 0xfe, 0x7b, 0]), 'utf16', null],
     'UTF-16, high byte first': [new Uint8Array([0xfe, 0xff, 0, 0x7b]), 'utf16', null], 'Windows-1252': [latin, 'notUtf8', 70_001],
-    'a character that is cut between two blocks': [split, 'notUtf8', 65_534],
-    'an end within a character': [new Uint8Array([0x22, 0xe2, 0x82]), 'notUtf8', 1],
+    'a character that is cut between two blocks': [split, 'notUtf8', 65_534], 'a tab in a text': ['"a\tb"', 'controlInText', 2],
+    'an end within a character': [new Uint8Array([0x22, 0xe2, 0x82]), 'notUtf8', 1], 'another escape': ['"\\x"', 'unknownEscape', 1], 'half an escape': ['"\\u12"', 'unknownEscape', 1],
 };
 Object.entries(NOT_JSON).forEach(([name, [text, why, at]]) => equal(`not JSON: ${name}`, whyNotJson(typeof text === 'string' ? bytesOf(text) : text), { why, at }));
 

@@ -1,11 +1,13 @@
 """What a run over many files shows of its rows, by the functions themselves: tables, the bar, the folder of the journal, and a cluster."""
 
+import logging
+import os
 import sys
 import types
 
 import pytest
 
-from erd import journal, judging, many, running
+from erd import journal, judging, many, running, streams
 from erd.judging import Row
 
 SUM = 'ab' * 32
@@ -87,6 +89,39 @@ def test_a_journal_that_cannot_be_kept(monkeypatch, tmp_path, platform, variable
         journal.Journal(['a'], None, '*.json', keeps=False)
     assert (str(found.value), found.value.status) == (
         f'the journal of the run cannot be kept in {tmp_path}/file/erd: let {variable} name a folder for it', 3)
+
+
+def test_on_windows_files_are_opened_for_bytes(monkeypatch, tmp_path):
+    """Otherwise a line end of two bytes would be read as one, and a control character as the end of the file."""
+    binary, ways, real = 0x8000, [], os.open
+
+    def opened(name, way, *mode):
+        ways.append(way & binary)
+        return real(name, way & ~binary, *mode)
+
+    (tmp_path / 'a.json').write_bytes(b'{}')
+    monkeypatch.setenv('XDG_STATE_HOME', str(tmp_path))
+    monkeypatch.setattr(journal, 'version', lambda: '1.2.3')
+    monkeypatch.setattr(os, 'O_BINARY', binary, raising=False)
+    monkeypatch.setattr(os, 'open', opened)
+    with streams.Input(str(tmp_path / 'a.json')):
+        pass
+    journal.Journal(['a'], None, '*.json', keeps=False).close()
+    assert ways == [binary, binary]
+
+
+def test_what_a_cluster_logs_is_no_output(caplog):
+    def client(address):
+        for name in loggers:
+            logging.getLogger(name).error('nothing at %s', address)
+        raise OSError
+
+    loggers = ('distributed.comm', 'asyncio')
+    for name in ('distributed', *loggers):
+        logging.getLogger(name).setLevel(logging.NOTSET)
+    with pytest.raises(streams.Stop):
+        running.client_of(client, 'tcp://room:1')
+    assert caplog.records == []
 
 
 def test_an_error_is_a_row(monkeypatch, tmp_path):
