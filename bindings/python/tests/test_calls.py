@@ -258,6 +258,13 @@ def test_the_first_repeated_names():
     assert not erd.repeated_names(report, most=None).more
 
 
+@pytest.mark.parametrize('size, wanted', [(2 ** 20 - 6, 2), (2 ** 20 - 5, 1)])
+def test_no_repeated_name_is_listed_behind_places_of_a_megabyte(size, wanted):
+    """Each step of a place counts with its slash."""
+    found = erd.repeated_names('{"%s":[%s]}' % ('n' * size, ','.join(5 * ['{"a":1,"a":2}'])))
+    assert (len(found), found.all_names, found.more) == (wanted, 5, True)
+
+
 def test_repeated_names_with_long_places_are_fewer():
     # Together, their places grow with the square of the report's size.
     report = '{"' + 'n' * 400_000 + '":[' + ','.join(['{"a":1,"a":2}'] * 3000) + ']}'
