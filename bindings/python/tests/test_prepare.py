@@ -284,3 +284,15 @@ def test_command_whose_library_is_missing(top, monkeypatch):
     ran = run(path)
     assert (ran.returncode, ran.stdout) == (3, b'')
     assert ran.stderr.startswith(b'erd failed: OSError: ') and ran.stderr.count(b'\n') == 1
+
+
+# Each reason that the library tells for what a step left, and a word that a reader finds in its sentence.
+WHY_LEFT = {
+    'counted': 'counts', 'requiredText': 'requires', 'twinIds': '@id', 'sharedNumber': 'number', 'namesObject': 'system name', 'nameTaken': 'new name',
+    'someGone': 'candidates', 'noName': 'no name', 'noCounty': 'county', 'noTown': 'town', 'nothingTells': 'nothing',
+}
+
+
+def test_each_reason_for_what_is_left_has_words():
+    assert {why: word for why, word in WHY_LEFT.items() if word in prepare.LEFT_WORDS.get(why, '')} == WHY_LEFT
+    assert set(prepare.LEFT_WORDS) == set(WHY_LEFT)
