@@ -1,8 +1,8 @@
 //! Calls on parts of reports, with each request for memory refused in turn.
 use crate::tests::answers::{Answer, has_text, right_if};
 use crate::tests::edits::value_of;
-use crate::tests::keys::key;
 use crate::tests::in_order::numbers_in_order;
+use crate::tests::keys::key;
 use crate::tests::refusing::each_refused;
 use crate::tests::vectors::SMALL_BALLOT;
 use erd_check::ValueSet;
