@@ -1,7 +1,7 @@
 """Holds the commands that tell of ballots against reports whose ballots are meant to be slow: for each byte of its reports, a command
 takes at most 1.3 times the instructions that it takes for a county of the same size. Of two counties one ballot differs or each, whichever
-takes longer. Where a command takes more, the table says how many times, and why. No answer is longer than the reports that it is about.
-Needs valgrind and `./erd`. One line a case.
+takes longer. Where a command takes more, the table says how many times, and why. No answer is longer than the reports that it is about,
+unless the table says why. Needs valgrind and `./erd`. One line a case.
 
 usage: hostile_ballots.py [BYTES], about so many of each report, or 120,000
 """
@@ -86,17 +86,19 @@ def choice_listed_often():
     return tuple(measure_with("W" * CHOICE, ["s"] * LISTED + last) for last in (["s"], ["n"]))
 
 
-# Each pair of reports, what it is, and how many times the instructions of a county a command may take where these are more than MOST.
+# Each pair of reports, what it is, and how many times the instructions of a county a command may take where these are more than MOST; and, of
+# an answer that may be longer than the reports, how many bytes it may have for each of theirs.
 SHORT_LINES = "a line has a quarter of the bytes of one in a county, whose lines list selections"
 SHORT_STYLES = "a style has 260 bytes, and in a county 8,900"
 PRODUCT = "its name and its words are written wherever it is listed, which grows with the square of the size"
+NAME_AND_RECORD = "the label of a choice stands in its name and in its record"
 CASES = [
     (listed_often, "a style that lists one contest again and again", {"ballots of two": (1.8, SHORT_LINES)}),
     (all_replaced, "a style that lists one contest again and again, and another one in the right report", {}),
     (listed_in_turn, "a style that lists two contests in turn, which have changed places", {"ballots of two": (1.8, SHORT_LINES)}),
     (many_styles, "very many styles, of which one differs", {"ballots": (1.5, SHORT_STYLES)}),
     (many_differing_styles, "very many styles that differ", {"ballots": (1.5, SHORT_STYLES), "differences --json": (1.5, SHORT_STYLES)}),
-    (long_labels, "a title and a choice of half the report", {}),
+    (long_labels, "a title and a choice of half the report", {"differences --json": (MOST, NAME_AND_RECORD, 1.5)}),
     (choice_listed_often, "a choice of %d bytes that a ballot lists %d times" % (CHOICE, LISTED), {"ballots of two": (4.2, PRODUCT)}),
 ]
 
@@ -137,10 +139,10 @@ def cases(folder):
     for pair, what, more in CASES:
         measured = Measured(pair(), folder)
         for name in COMMANDS:
-            most, why = more.get(name, (MOST, ""))
+            most, why, longest = (*more.get(name, (MOST, "")), 1)[:3]
             ratio, length = measured.cost(name) / honest[name], measured.answer(name)
             told = "%s: %s takes %.2f times the instructions of a county, and answers with %.2f bytes for a byte" % (what, name, ratio, length)
-            yield told + ("; " + why if why else ""), at_most(most, ratio) or at_most(1, length)
+            yield told + ("; " + why if why else ""), at_most(most, ratio) or at_most(longest, length)
 
 
 if __name__ == "__main__":
