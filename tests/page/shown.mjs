@@ -150,6 +150,8 @@ const LISTS = {
     'filed values of many lines': differencesFiled([{ ...INSIDE, number: 0, inside: { part: 'contest', count: 3, entries: [
         { ...VOTES, member: 'Note', name: 'Bo', rows: [...['A', 'B', 'C', 'D'].map((one) => ({ left: line(one), right: null, same: false })), { more: 5 }] }] } }],
     { count: 1, listed: 1 }, NAMES),
+    'filed values without a line': differencesFiled([{ ...VOTES, number: 0, there: [false, true], lacking: [true, true], rows: [] }],
+        { count: 1, listed: 1 }, NAMES),
     'filed faults': faultsFiled(['/a: wrong kind', '/b: repeated'], 7, 'a.json'),
     'all faults are filed': faultsFiled(['/a: wrong kind'], 1, 'a.json'),
     'the offer of an own view': ownOffer([['fips'], []], NAMES, () => {}),

@@ -40,8 +40,12 @@ function linesOf(entry, names) {
         ...(count === some.length ? [] : [say('inside.more', { count: count - some.length })])];
 }
 
-// The values of a member, and why two of them look alike.
-function valuesOf({ rows }) {
+// The values of a member, and why two of them look alike. Where neither has a line, one is not there, and the other is empty.
+function valuesOf({ rows, there, lacking = [] }) {
+    if (lacking.length > 0 && lacking.every((isLacking) => isLacking)) {
+        const [left, right] = there.map((is) => element('em', {}, say(is ? 'difference.empty' : 'difference.notThere')));
+        return [saidWith('record.values', { left, right })];
+    }
     const changed = (rows ?? []).filter(({ same }) => same === false);
     const more = changed.length - MOST_ROWS + (rows?.at(-1)?.more ?? 0);
     return [...changed.slice(0, MOST_ROWS).flatMap(valueLines), ...(more > 0 ? [say('difference.moreLines', { count: more })] : [])];
