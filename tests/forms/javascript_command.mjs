@@ -120,10 +120,16 @@ truncateSync(report, MOST_BYTES + 1);
 await tryRun('a report that is too long', ['check', report], [3, '', 'too long\n']);
 
 // Of two reports the right one has more faults than a call lists. The command writes all of them.
-writeFileSync(report, JSON.stringify({ '@type': 'ElectionResults.ElectionReport', Status: 'pre-election', Election: [], GpUnit: Array(1500).fill(1) }));
-const faults = ['/Election: wrong number of elections', ...Array.from({ length: 1500 }, (_, at) => `/GpUnit/${at}: wrong kind`)];
+writeFileSync(report, JSON.stringify({ '@type': 'ElectionResults.ElectionReport', Status: 'certified', Election: [], GpUnit: Array(1500).fill(1) }));
+const wrongKinds = Array.from({ length: 1500 }, (_, at) => `/GpUnit/${at}: wrong kind`);
+const faults = ['/Election: wrong number of elections', ...wrongKinds, '/Status: not pre-election'];
 const accepted = join(SUITE, 'canonical-one-unit', 'input.json');
 await tryRun('ballots of a report with many faults', ['ballots', accepted, report], [1, faults.map((line) => `right: ${line}\n`).join(''), '']);
+
+// So it does of a copy, and then it writes a line for each reason, of the last fault too.
+const [statusOfCopy, , below] = await ran(['prepare', '--steps', 'nulls', report]);
+const [linesBelow, wantedBelow] = [below.replace(/^(reason \d+) .*/gm, '$1'), [...faults, 'reason 9', 'reason 1', 'reason 8', ''].join('\n')];
+said('a copy with many faults', statusOfCopy === 1 && linesBelow === wantedBelow, `${statusOfCopy} ${linesBelow.slice(-300)}`);
 
 // Help goes to standard output, and what is said of wrong words to standard error.
 for (const [words, ...wanted] of [

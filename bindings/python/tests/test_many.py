@@ -277,20 +277,34 @@ def test_cluster(run, ballots, tmp_path):
             it.wait()
 
 
-def test_the_workers_of_a_cluster_have_the_preference(top, tmp_path, monkeypatch, capfd):
-    asked = []
+@pytest.fixture
+def asked(tmp_path, monkeypatch):
+    """What a cluster is asked for, whose workers are this process."""
+    found = []
 
     def run_on_cluster(address, judge, files, prefer):
-        asked.append((address, prefer))
+        found.append((address, prefer))
         return [judge(file, prefer) for file in files]
 
     monkeypatch.setenv('XDG_STATE_HOME', str(tmp_path))
     monkeypatch.setattr(many, 'run_on_cluster', run_on_cluster)
+    return found
+
+
+def test_the_workers_of_a_cluster_have_the_preference(top, asked, capfd):
     case = top / 'out' / 'conformance' / 'prefer-accepted-under-a-preference'
     prefer = (case / 'prefer').read_text('utf-8').rstrip('\n')
     status = many.main(['--json', '--scheduler', 'tcp://room:1', '--prefer', prefer, str(case / 'input.json')])
     row, = json.loads(capfd.readouterr().out)
     assert (status, asked, row['verdict']) == (0, [('tcp://room:1', prefer)], 'accepted')
+
+
+def test_the_workers_of_a_cluster_do_the_steps(top, asked, capfd):
+    export = str(top / 'examples' / 'state-primary.raw.json')
+    status = many.main(['--json', '--scheduler', 'tcp://room:1', '--prepare', 'removed,filled-in', export])
+    row, = json.loads(capfd.readouterr().out)
+    assert (status, asked, row['verdict']) == (0, [('tcp://room:1', None)], 'accepted')
+    assert row['prepared'].startswith('outside 18, coordinates 3, ')
 
 
 def test_a_cluster_that_is_not_there(run, ballots):
