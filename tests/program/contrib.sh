@@ -231,6 +231,8 @@ sed 's/Ingrith/Ingrith\\u007f/' "$top/examples/county.vendor-b.json" > ballots/c
 equal 'a control character in a form' "$(changed | grep '^+')" '+"BallotName": "Ingrith\u007f Sablewood",'
 control=$(PATH=$work/bin:$work/tools git diff -U0 | grep -c '^+.*Ingrith\^? Sablewood')
 equal 'a control character in a form without Python' "$control" 1
+sed 's/Ingrith/Íngrith/' "$top/examples/county.vendor-b.json" > ballots/county.json
+equal 'a letter with an accent stays as it is' "$(changed | grep '^+')" '+"BallotName": "Íngrith Sablewood",'
 mv "$work/bin/erd" "$work/bin/away"
 run git diff
 said 'without the program git says so' "$(grep -q 'there is no erd' "$work/err" || last_words "$work/out" "$work/err")"
