@@ -16,6 +16,22 @@ if ! command -v "llvm-profdata-$("$(dirname "$(rt doc)")/toolchain/bin/clang" -d
     exit
 fi
 
+# What is made is handed on again, until the code or the profile is another one. A compiler of our own, in a folder, counts.
+stale=$work/stale
+mkdir -p "$stale/packaging/profile" "$stale/crates/erd/out/flagged"
+cp packaging/profiled.sh "$stale/packaging"
+printf '#!/bin/sh\necho -O3\n' > "$stale/packaging/profile/flags.sh"
+echo counts > "$stale/packaging/profile/erd.proftext"
+printf '#!/bin/sh\necho made >> made\ncp erd crates/erd/out/flagged\n: > crates/erd/out/flagged/warnings\n' > "$stale/packaging/compile.sh"
+chmod +x "$stale"/packaging/{,profile/}*.sh
+for row in 'erd code 1' 'erd code 1' 'erd other-code 2' 'packaging/profile/erd.proftext other-counts 3' 'out/profiled/erd damaged 4'; do
+    read -r file text wanted <<< "$row"
+    echo "$text" > "$stale/$file"
+    run env -u PROFILE "$stale/packaging/profiled.sh" erd
+    equal "how often it was made: $file, $text" "$(wc -l < "$stale/made")" "$wanted"
+done
+equal 'what is handed on then' "$(cat "$stale/out/profiled/erd")" other-code
+
 run packaging/profiled.sh erd
 expect_text 'the program with a profile' 0 out/profiled/erd
 [ "$status" -eq 0 ] || { counts; exit; }

@@ -93,6 +93,13 @@ expect 'a form that is missing stops it' 1
 equal 'what it says' "$(cat "$work/err")" 'no release: there is no out/portable/other.wasm'
 said 'nothing is left of it' "$(ls -d "$copy"/out/release* 2> /dev/null)"
 
+# Nor does one of two files stand for its form: which is meant, nobody knows.
+sed -i 1d "$copy/packaging/release-files.txt"
+touch "$copy/out/python/erd-$version-0-manylinux_2_0_x86_64.whl"
+run "$copy/packaging/release.sh"
+expect 'two files in the place of one stop it' 1
+said 'nothing is left of that' "$(ls -d "$copy"/out/release* 2> /dev/null)"
+
 # The library's packages, in an empty root.
 if command -v lintian > /dev/null; then
     run lintian --no-cfg --fail-on error,warning "$release"/liberd*.deb

@@ -62,6 +62,7 @@ recorded() {
 }
 tree=$(git -C "$work/clone" rev-parse 'HEAD^{tree}')
 recorded 'a gate that failed' 1 "$tree 8510 passed, 1 failed"
+recorded 'a gate that says more' 1 "$tree 8511 passed, 0 failed, 1 lost"
 recorded 'a gate of something else' 1 "${tree//[a-f]/0} 8511 passed, 0 failed"
 recorded 'a gate that passed' 0 "$tree 8511 passed, 0 failed"
 equal 'its tree' "$(git -C "$work/clone" rev-parse 'HEAD^{tree}')" "$tree"
