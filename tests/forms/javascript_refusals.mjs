@@ -123,6 +123,19 @@ frugal.check(bytes);
 [...frugal.checkedByPieces(bytes)];
 frugal.check(bytes);
 equal('none is kept that has more bytes than are to be kept', instances, 5);
+// The module answers with the place 0 where it has no memory for what it is handed, or for a list. Nothing is written or read there.
+for (const [name, call] of [
+    ['erd_malloc', (it) => it.check(bytes)], ['erd_malloc', (it) => it.prepared(bytes, '')], ['erd_malloc', (it) => it.commandLine(['check'])],
+    ['erd_malloc', (it) => [...it.checkedByPieces(bytes)]], ['erd_open', (it) => [...it.checkedByPieces(bytes)]],
+]) {
+    WebAssembly.Instance = class {
+        constructor(...words) {
+            this.exports = { ...new real(...words).exports, [name]: () => 0 };
+        }
+    };
+    const empty = await load(MODULE);
+    throws(`no memory by ${name}: ${call}`, NoMemoryError, () => call(empty));
+}
 WebAssembly.Instance = real;
 
 // Where a page loads the module, it is fetched from beside index.mjs. What a server says in its place is no module.

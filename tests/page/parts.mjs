@@ -42,7 +42,8 @@ const split = new Uint8Array(65_540).fill(0x20);
 split.set([0xe2, 0x82, 0x41], 65_534);
 const NOT_JSON = {
     'a comma before a bracket': ['[1,]', 'commaBeforeEnd', 3], 'a comma before a brace': ['{"a":1,}', 'commaBeforeEnd', 7],
-    'half a pair': ['"\\ud800"', 'halfSurrogate', 1], 'a zero in front': ['[01]', 'badNumber', 2], 'no colon': ['{"a" 1}', 'colonExpected', 5],
+    'half a pair': ['"\\ud800"', 'halfSurrogate', 1], 'the last half of a pair': ['"\\udfff"', 'halfSurrogate', 1],
+    'a zero in front': ['[01]', 'badNumber', 2], 'no colon': ['{"a" 1}', 'colonExpected', 5],
     'a name without quotes': ['{a:1}', 'nameExpected', 1], 'two values': ['1 2', 'moreAfterEnd', 2], 'an early end': ['[1', 'endsEarly', 2],
     'the XML form': ['<?xml version="1.0"?>\n<er:ElectionReport>', 'markup', null], 'UTF-16': [new Uint8Array([0xff, 0xfe, 0x7b, 0]), 'utf16', null],
     'UTF-16, high byte first': [new Uint8Array([0xfe, 0xff, 0, 0x7b]), 'utf16', null], 'Windows-1252': [latin, 'notUtf8', 70_001],
