@@ -12,7 +12,7 @@ import typing
 import pytest
 
 import erd
-from erd import results
+from erd import repeats, results
 
 
 def test_version(top):
@@ -271,6 +271,15 @@ def test_repeated_names_with_long_places_are_fewer():
     found = erd.repeated_names(report)
     assert (len(found), found.all_names, found.more) == (3, 3000, True)
     assert [name.place[1] for name in erd.repeated_names(report, most=None)] == list(range(3000))
+
+
+def test_repeated_names_without_memory(top, monkeypatch, capfd):
+    def refuse(_):
+        raise MemoryError
+    monkeypatch.setattr(repeats, 'repeated_names', refuse)
+    file = str(top / 'examples' / 'one-unit.json')
+    assert repeats.main([file]) == 3
+    assert capfd.readouterr() == ('', f'{file}: no memory\n')
 
 
 class Counted:
