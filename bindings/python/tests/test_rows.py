@@ -68,6 +68,25 @@ def test_no_bar_without_a_terminal(monkeypatch):
     assert Shown(monkeypatch, False).bar_of(3) == []
 
 
+def test_the_bar_is_gone_before_the_table(monkeypatch, top, tmp_path):
+    monkeypatch.setenv('XDG_STATE_HOME', str(tmp_path))
+    shown = Shown(monkeypatch, True)
+    assert many.main(['--jobs', '1', str(top / 'examples' / 'one-unit.json')]) == 0
+    bar, cleared, (handle, table) = shown.texts
+    assert (bar, cleared, handle) == ((2, f'\r[{"#" * 40}] 1 of 1'), (2, '\r\x1b[K'), 1)
+    assert table.startswith('file ')
+
+
+def test_the_bar_is_gone_where_a_run_is_cut_off(monkeypatch, top, tmp_path, capfd):
+    def cut_off(*_):
+        raise KeyboardInterrupt
+    monkeypatch.setenv('XDG_STATE_HOME', str(tmp_path))
+    monkeypatch.setattr(many, 'rows_of', cut_off)
+    shown = Shown(monkeypatch, True)
+    assert many.main([str(top / 'examples' / 'one-unit.json')]) == 130
+    assert (shown.texts, capfd.readouterr().err) == ([(2, '\r\x1b[K')], 'cut off after 0 of 1 files; --resume goes on from there\n')
+
+
 @pytest.mark.parametrize('platform, given, wanted', [
     ('linux', {'XDG_STATE_HOME': '/s', 'LOCALAPPDATA': '/l'}, '/s/erd'), ('linux', {}, '/h/.local/state/erd'),
     ('win32', {'XDG_STATE_HOME': '/s', 'LOCALAPPDATA': '/l'}, '/l/erd'), ('win32', {}, '/h/AppData/Local/erd')])
