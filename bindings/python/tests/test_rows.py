@@ -25,6 +25,7 @@ b.json  refused   2
 def test_the_table():
     assert many.table_of(ROWS) == TABLE
     assert many.table_of([]) == 'file  verdict  faults  sha256 of the canonical form  group\n\n0 files, 0 accepted, in 0 groups\n'
+    assert many.table_of(ROWS[:1]).endswith('\n\n1 file, 1 accepted, in 1 group\n')
 
 
 def test_the_table_of_copies():
@@ -84,7 +85,7 @@ def test_the_bar_is_gone_where_a_run_is_cut_off(monkeypatch, top, tmp_path, capf
     monkeypatch.setattr(many, 'rows_of', cut_off)
     shown = Shown(monkeypatch, True)
     assert many.main([str(top / 'examples' / 'one-unit.json')]) == 130
-    assert (shown.texts, capfd.readouterr().err) == ([(2, '\r\x1b[K')], 'cut off after 0 of 1 files; --resume goes on from there\n')
+    assert (shown.texts, capfd.readouterr().err) == ([(2, '\r\x1b[K')], 'cut off after 0 of 1 file; --resume goes on from there\n')
 
 
 @pytest.mark.parametrize('platform, given, wanted', [

@@ -76,13 +76,18 @@ def table_of(rows: List[Row]) -> str:
     told = sum(row.group is not None for row in rows)
     groups = max((row.group or 0 for row in rows), default=0)
     return ''.join('  '.join(cell.ljust(width) for cell, width in zip(line, widths)).rstrip() + '\n' for line in (heads, *lines)) \
-        + f'\n{len(rows)} files, {told} accepted, in {groups} {"group" if groups == 1 else "groups"}\n' + remedies_of(rows)
+        + f'\n{counted(len(rows), "file")}, {told} accepted, in {counted(groups, "group")}\n' + remedies_of(rows)
+
+
+def counted(count: int, word: str) -> str:
+    """Returns the count with the word, which has an s but for one."""
+    return f'{count} {word}' if count == 1 else f'{count} {word}s'
 
 
 def remedies_of(rows: List[Row]) -> str:
     """Returns a line for each reason of faults: how many files have it, which steps may fix it, and what to ask the vendor for."""
     counts = Counter(reason for row in rows for reason in row.reasons)
-    return ''.join(f'{count} {"file" if count == 1 else "files"}: {remedy_of(reason).line(reason)}\n' for reason, count in sorted(counts.items()))
+    return ''.join(f'{counted(count, "file")}: {remedy_of(reason).line(reason)}\n' for reason, count in sorted(counts.items()))
 
 
 def json_of(rows: List[Row]) -> str:
@@ -202,7 +207,7 @@ def run(arguments: Optional[List[str]]) -> int:
                 progress.step()
         except KeyboardInterrupt:
             progress.end()
-            tell(f'cut off after {len(rows)} of {len(files)} files; --resume goes on from there')
+            tell(f'cut off after {len(rows)} of {counted(len(files), "file")}; --resume goes on from there')
             return INTERRUPTED
         progress.end()
         try:
