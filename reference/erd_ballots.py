@@ -193,8 +193,8 @@ class TwoReports:
         return moved + self.changed_lines(ones[row['left']], others[row['right']], row['selections'])
 
     def changed_lines(self, one, other, rows):
-        """'`changed`: it, or what it names, has other words, other headers stand around it, or its selections differ.' By the definitions the
-        number of the headers alone counts: one that stands in place of another is told itself. 'A selection is told by its name'."""
+        """'`changed`: it, or what it names, has other words, more or fewer headers stand around it, or its selections differ. A selection is
+        told by its name'."""
         words = {'removed': 'removed', 'added': 'added', 'moved here': 'moved'}
         inside = [f'    {words[row["how"]]} selection {compact_text(row["name"])}' for row in rows if row['how'] in words]
         return [f'  changed {self.thing_text(self.left, one)}', *inside] if inside or not self.is_same_line(one, other) else []

@@ -849,8 +849,8 @@ def differences_of(left, right):
 
 
 def differences_inside(left, right):
-    """API.md: 'The array rises by the names of the selections, and then by the names of members. A selection that only one
-    contest has is one entry. Otherwise there is an entry for each member that differs.'"""
+    """API.md: 'The array rises by the names of the selections, then of members. A selection that only one contest has is
+    one entry. Otherwise there is an entry for each member that differs.'"""
     one, other = (record.members.get('ContestSelection', {}) for record in (left, right))
     return [SelectionDifference(name, how, member) for name in sorted(one.keys() | other.keys())
             for how, member in differences_of(one.get(name), other.get(name))]
@@ -872,7 +872,7 @@ def difference_line(difference):
 def difference_data(difference):
     """API.md: 'one object for each difference' with `how`, `key`, `member` and `part`. `key` 'is `null` for the report itself,
     and for a sole election without external identifiers'. 'An entry for the member `ContestSelection` of a contest has a
-    further member, `selections`. It is the array of what differs inside'."""
+    further member, `selections`, the array of what differs inside'."""
     data = {'part': difference.part, 'key': difference.key, **way_data(difference)}
     if difference.selections is not None:
         data['selections'] = [{'name': name_data(inside.name), **way_data(inside)} for inside in difference.selections]
@@ -914,7 +914,7 @@ class Shown:
         self.inside = {}
 
     def value_at(self, difference):
-        """API.md: 'It is the value of the member, or the record of the object if `how` is not `"member"`.'"""
+        """API.md: 'Each is the value of the member, or the record of the object if `how` is not `"member"`.'"""
         thing = self.objects.get((difference.part, difference.key))
         if thing is None:
             return NOTHING
@@ -982,7 +982,7 @@ UNSEEN = {
 
 
 def word_entries(resolved):
-    """API.md: 'an array with an entry for each unit, party, person, office, header, election, candidate and contest, in this order and
+    """API.md: 'answers with an entry for each unit, party, person, office, header, election, candidate and contest, in this order and
     by rising keys'. The entries, one after another."""
     for part in PARTS[1:-1]:
         for thing in sorted((it for it in resolved.objects if it.family == part), key=lambda it: no_key_first(resolved.key_of(it))):

@@ -1,7 +1,7 @@
 """Holds the blocks of the pages against where they come from: contracts and definitions against the sources, and edits, wrong
 lines and cases against their files. Names of the code that pages for developers cite are in the sources, make knows what pages ask
-of it, and the files that a page names are there. Each session and each JSON example stands on a page that another test runs. One
-line a case that fails, and at the end the counts.
+of it, and the files that a page names are there. Each session and each JSON example stands on a page that another test runs. What
+the reference program for ballots quotes is on a page. One line a case that fails, and at the end the counts.
 """
 
 import re
@@ -67,6 +67,15 @@ def quoted():
             yield f'{page}: a file has the block that begins with {beginning!r}', True, bool(holds)
 
 
+def said_of_ballots():
+    """What the reference program for ballots quotes between single quotes stands in docs/, where a link counts as its text."""
+    text = ' '.join(' '.join(re.sub(r'\[([^]]*)\]\([^)]*\)', r'\1', path.read_text(encoding='utf-8')).split()) for path in ROOT.glob('docs/*.md'))
+    said = [' '.join(it.split()) for it in re.findall(r'"""(.*?)"""', read('reference/erd_ballots.py'), re.S)]
+    found = [sentence.rstrip('.') for it in said for sentence in re.findall(r"'([^']{12,})'", it)]
+    yield 'reference/erd_ballots.py: it quotes the pages', True, len(found) > 10
+    yield 'reference/erd_ballots.py: what it quotes and no page says', [], [sentence for sentence in found if sentence not in text]
+
+
 def words_of_sources():
     """The words in the sources and in the names of their files."""
     found = set()
@@ -118,4 +127,4 @@ def run_elsewhere():
 
 
 if __name__ == '__main__':
-    sys.exit(tell_cases([*quoted(), *cited(), *made(), *named(), *run_elsewhere()]))
+    sys.exit(tell_cases([*quoted(), *said_of_ballots(), *cited(), *made(), *named(), *run_elsewhere()]))
