@@ -10,7 +10,8 @@ ghost use Rattle.erd_check.specs.Values.{names};
 ghost use Rattle.erd_check.specs.Wants.{entry_want, is_compared_set};
 ghost use Rattle.erd_check.specs.Paths.{steps_of};
 ghost use Rattle.erd_check.specs.Visits.{told_at, told_of_items, told_of_members, told_of_report, IsKnown, AreEntriesKnown, AreMembersKnown, IsInOrder};
-ghost use Rattle.erd_check.specs.Visits.{AreEntriesInOrder, AreMembersInOrder, IsSilentMember};
+ghost use Rattle.erd_check.specs.Visits.{AreEntriesInOrder, AreMembersInOrder};
+ghost use Rattle.erd_check.specs.code.TwoVisitors.{AreSilent, EachAdds, EachFinds};
 ghost use Rattle.erd_check.specs.declared.want.Want.TheVariants.{Object};
 ghost use Rattle.erd_tables.specs.declared.class.Role.TheVariants.{Report};
 
@@ -65,8 +66,7 @@ pub(crate) fn walk_both<A: Visitor, B: Visitor>(
     second: &B,
     report: &Value,
 ) -> Result<Findings, AllocError>
-    ensures first { IfOk result (λ found. found.first.items ≡ told_of_report (A.tells first.now) (view report.now)) }
-    ensures second { IfOk result (λ found. found.second.items ≡ told_of_report (B.tells second.now) (view report.now)) }
+    ensures told { IfOk result (EachFinds (λ tells. told_of_report tells (view report.now)) (A.tells first.now) (B.tells second.now)) }
     ensures known { IfOk result (λ _. IsKnown (A.Known first.now) (Object Report) (view report.now)) }
     ensures in_order { IfOk result (λ _. IsTrue (A.is_thorough first.now) → IsInOrder (Object Report) (view report.now)) }
 {
@@ -99,12 +99,9 @@ fn walk<'a, A: Visitor, B: Visitor>(
     context: Context<'a>,
     found: &mut Findings,
 ) -> Result<(), AllocError>
-    ensures first { IfOk result (λ _. found.new.first.items ≡ found.old.first.items
-        ++ told_at (A.tells visitors.now.first.now) (view context.entry.outer.now) (view context.entry.owner.now) (steps_of context.entry.path.now)
-        want (list_any (is_same_json (view value.now)) (map view earlier.now)) (view value.now)) }
-    ensures second { IfOk result (λ _. found.new.second.items ≡ found.old.second.items
-        ++ told_at (B.tells visitors.now.second.now) (view context.entry.outer.now) (view context.entry.owner.now) (steps_of context.entry.path.now)
-        want (list_any (is_same_json (view value.now)) (map view earlier.now)) (view value.now)) }
+    ensures told { IfOk result (λ _. EachAdds (λ tells. told_at tells (view context.entry.outer.now) (view context.entry.owner.now)
+        (steps_of context.entry.path.now) want (list_any (is_same_json (view value.now)) (map view earlier.now)) (view value.now))
+        (A.tells visitors.now.first.now) (B.tells visitors.now.second.now) found.old found.new) }
     ensures known { IfOk result (λ _. IsKnown (A.Known visitors.now.first.now) want (view value.now)) }
     ensures in_order { IfOk result (λ _. IsTrue (A.is_thorough visitors.now.first.now) → IsInOrder want (view value.now)) }
 {
@@ -140,12 +137,9 @@ fn walk_items<'a, A: Visitor, B: Visitor>(
     items: &'a Vec<Value>,
     found: &mut Findings,
 ) -> Result<(), AllocError>
-    ensures first { IfOk result (λ _. found.new.first.items ≡ found.old.first.items
-        ++ option_map_or (λ v. told_of_items (A.tells visitors.now.first.now) (view inside.entry.outer.now) (view inside.entry.owner.now)
-        (steps_of inside.entry.path.now) v (is_compared_set want) [] (items_view items.now.items)) (entry_want want) []) }
-    ensures second { IfOk result (λ _. found.new.second.items ≡ found.old.second.items
-        ++ option_map_or (λ v. told_of_items (B.tells visitors.now.second.now) (view inside.entry.outer.now) (view inside.entry.owner.now)
-        (steps_of inside.entry.path.now) v (is_compared_set want) [] (items_view items.now.items)) (entry_want want) []) }
+    ensures told { IfOk result (λ _. EachAdds (λ tells. option_map_or (λ v. told_of_items tells (view inside.entry.outer.now) (view inside.entry.owner.now)
+        (steps_of inside.entry.path.now) v (is_compared_set want) [] (items_view items.now.items)) (entry_want want) [])
+        (A.tells visitors.now.first.now) (B.tells visitors.now.second.now) found.old found.new) }
     ensures known { IfOk result (λ _. AreEntriesKnown (A.Known visitors.now.first.now) want (items_view items.now.items)) }
     ensures in_order { IfOk result (λ _. IsTrue (A.is_thorough visitors.now.first.now) → AreEntriesInOrder want (items_view items.now.items)) }
 {
@@ -175,12 +169,9 @@ fn walk_members<'a, A: Visitor, B: Visitor>(
     members: &'a Map<String, Value>,
     found: &mut Findings,
 ) -> Result<(), AllocError>
-    ensures first { IfOk result (λ _. found.new.first.items ≡ found.old.first.items
-        ++ told_of_members (A.tells visitors.now.first.now) (view inside.entry.outer.now) (view inside.entry.owner.now)
-        (steps_of inside.entry.path.now) scope (members_view members.now.entries)) }
-    ensures second { IfOk result (λ _. found.new.second.items ≡ found.old.second.items
-        ++ told_of_members (B.tells visitors.now.second.now) (view inside.entry.outer.now) (view inside.entry.owner.now)
-        (steps_of inside.entry.path.now) scope (members_view members.now.entries)) }
+    ensures told { IfOk result (λ _. EachAdds (λ tells. told_of_members tells (view inside.entry.outer.now) (view inside.entry.owner.now)
+        (steps_of inside.entry.path.now) scope (members_view members.now.entries))
+        (A.tells visitors.now.first.now) (B.tells visitors.now.second.now) found.old found.new) }
     ensures known { IfOk result (λ _. AreMembersKnown (A.Known visitors.now.first.now) scope (members_view members.now.entries)) }
     ensures in_order { IfOk result (λ _. IsTrue (A.is_thorough visitors.now.first.now) → AreMembersInOrder scope (members_view members.now.entries)) }
     ensures sorted { IfOk result (λ _. IsStrictlySortedBy text_cmp (names (members_view members.now.entries))) }
@@ -211,10 +202,8 @@ fn are_silent<A: Visitor, B: Visitor>(
     visitors: &Visitors<A, B>,
     member: Member,
 ) -> Result<bool, AllocError>
-    ensures first { IfOk result (λ passed. IsTrue passed → IsSilentMember (A.tells visitors.now.first.now) (view member.entry.owner.now) member.entry.want
-        (view member.entry.value.now)) }
-    ensures second { IfOk result (λ passed. IsTrue passed → IsSilentMember (B.tells visitors.now.second.now) (view member.entry.owner.now) member.entry.want
-        (view member.entry.value.now)) }
+    ensures silent { IfOk result (λ passed. IsTrue passed → AreSilent (A.tells visitors.now.first.now) (B.tells visitors.now.second.now)
+        (view member.entry.owner.now) member.entry.want (view member.entry.value.now)) }
     ensures known { IfOk result (λ passed. IsTrue passed → IsKnown (A.Known visitors.now.first.now) member.entry.want (view member.entry.value.now)) }
     ensures in_order { IfOk result (λ passed. IsTrue passed
         → IsTrue (A.is_thorough visitors.now.first.now) → IsInOrder member.entry.want (view member.entry.value.now)) }

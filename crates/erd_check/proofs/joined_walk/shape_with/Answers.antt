@@ -8,7 +8,7 @@ pub of-requires : goal.of-requires
 of-requires g c =
     let t = view c.args.tree.now in
     let order = c.in_ok-first.ensures.in_order refl in
-    let all : ListsAll (ShapeFault t) c.of-list.result = subst (ListsAll (ShapeFault t)) (sym (c.of-list.ensures ∙ c.in_ok-first.ensures.first))
+    let all : ListsAll (ShapeFault t) c.of-list.result = subst (ListsAll (ShapeFault t)) (sym (c.of-list.ensures ∙ c.in_ok-first.ensures.told.0))
     (shape_walk_lists t order) in
     record {
       shaped = shaped_by c.args.tree.now c.of-list.result all order c.in_ok-first.ensures.known c.requires.nests
@@ -19,7 +19,7 @@ pub returns-clause-refused : goal.returns-clause-refused
 returns-clause-refused g c =
     let t = view c.args.tree.now in
     let order = c.in_ok-first.ensures.in_order refl in
-    let all : ListsAll (ShapeFault t) c.of-list.result = subst (ListsAll (ShapeFault t)) (sym (c.of-list.ensures ∙ c.in_ok-first.ensures.first))
+    let all : ListsAll (ShapeFault t) c.of-list.result = subst (ListsAll (ShapeFault t)) (sym (c.of-list.ensures ∙ c.in_ok-first.ensures.told.0))
     (shape_walk_lists t order) in
     let some : c.of-list.result ≢ [] = λ empty. let zero : length c.of-list.result ≡ 0 = ap length empty in c.if-len-eq0.false (c.len.ensures ∙ zero) in
     (all, some)
