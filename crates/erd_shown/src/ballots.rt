@@ -14,7 +14,7 @@ ghost use Rattle.erd_shown.specs.code.LentNames.{lent};
 ghost use Rattle.erd_shown.specs.code.LineLists.{of_line};
 ghost use Rattle.erd_shown.specs.code.LineTexts.{written_lines};
 
-use crate::contents::is_header;
+use crate::contests_and_headers::is_header;
 use crate::keys::write_key_or_null;
 use crate::lines::{Line, push_content};
 use crate::listed::{lists_selections, names_on};

@@ -8,7 +8,7 @@ mod ballots;
 mod ballots_beside;
 mod beside;
 mod beside_texts;
-mod contents;
+mod contests_and_headers;
 mod counts;
 mod differing_lines;
 mod differing_selections;

@@ -4,7 +4,7 @@ ghost use Rattle.erd_shown.specs.ContentData.{members_in};
 ghost use Rattle.erd_shown.specs.Lines.{content_lines, inside_lines, node_lines, nodes_lines};
 ghost use Rattle.erd_shown.specs.code.LineLists.{of_line};
 
-use crate::contents::is_header;
+use crate::contests_and_headers::is_header;
 use crate::counts::one_more;
 use serde_json::Value;
 use std::alloc::AllocError;

@@ -11,7 +11,7 @@ ghost use Rattle.erd_shown.specs.ListedNames.{selections_named, selections_on, s
 ghost use Rattle.erd_shown.specs.code.LentNames.{lent};
 ghost use Rattle.erd_shown.specs.code.Selections.{AreNamedFrom};
 
-use crate::contents::is_header;
+use crate::contests_and_headers::is_header;
 use crate::lookups::{name_named, place_named};
 use crate::selections::{LentName, named_selections};
 use erd_check::values::{entries_at, text_at};

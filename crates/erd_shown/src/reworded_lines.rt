@@ -9,7 +9,7 @@ ghost use Rattle.erd_shown.specs.code.LineLists.{of_line};
 ghost use Rattle.erd_shown.specs.code.Marks.{AreMarks};
 
 use crate::ballots::lines_of;
-use crate::contents::is_header;
+use crate::contests_and_headers::is_header;
 use crate::lines::Line;
 use crate::listed::lists_selections;
 use crate::marks::{Marks, any_of, one_of};

@@ -13,7 +13,7 @@ ghost use Rattle.erd_shown.specs.code.LineLists.{of_line};
 ghost use Rattle.erd_shown.specs.code.Selections.{AreNamedFrom};
 
 use crate::ballots::lines_of;
-use crate::contents::{is_header, write_nothing};
+use crate::contests_and_headers::{is_header, write_nothing};
 use crate::lines::Line;
 use crate::listed::lists_selections;
 use crate::lookups::place_named;

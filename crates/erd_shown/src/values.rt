@@ -6,7 +6,7 @@ ghost use Rattle.erd_text.specs.Tokens.{value_tokens};
 ghost use Rattle.erd_shown.specs.Shown.{shown_value};
 ghost use Rattle.erd_shown.specs.code.Writing.{names_keys};
 
-use crate::contents::write_content;
+use crate::contests_and_headers::write_content;
 use crate::references::{write_reference, write_reference_set};
 use erd_check::values::entries_of;
 use erd_meaning::Report;

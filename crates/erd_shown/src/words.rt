@@ -8,7 +8,7 @@ ghost use Rattle.erd_shown.specs.Shown.{shown_members};
 ghost use Rattle.erd_shown.specs.BallotWords.{is_word, word_value, words_data, words_in_class, printed_members, words_text};
 ghost use Rattle.erd_shown.specs.code.Writing.{member_told};
 
-use crate::contents::is_carried;
+use crate::contests_and_headers::is_carried;
 use crate::members::write_plain_member;
 use crate::texts::text_of;
 use erd_check::values::class_of_object;

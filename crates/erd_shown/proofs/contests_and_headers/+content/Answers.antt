@@ -4,7 +4,7 @@ use Rattle.serde_json.specs.Data.{depth, items_depth}
 use Rattle.erd_text.proofs.WholeValues.{whole_get}
 use Rattle.std.proofs.lemmas.Result.{on_ok_weaker}
 use Rattle.erd_shown.proofs.Written.{entry_depth, get_depth, inside_at}
-use Rattle.erd_shown.proofs.contents.+content.Goals as goal
+use Rattle.erd_shown.proofs.contests_and_headers.+content.Goals as goal
 
 pub write_inside-write_content-requires : goal.write_inside-write_content-requires
 write_inside-write_content-requires t c =

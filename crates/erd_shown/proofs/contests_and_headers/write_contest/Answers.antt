@@ -2,7 +2,7 @@ use Rattle.erd_text.proofs.Common.{ℕ, ◌++◌, List, ap, ◌∙◌, codes, ma
 use Rattle.std.proofs.lemmas.Result.{on_ok_weaker}
 use Rattle.erd_meaning.specs.SelectionNames.{key_named}
 use Rattle.erd_shown.proofs.Written.{contest_tokens}
-use Rattle.erd_shown.proofs.contents.write_contest.Goals as goal
+use Rattle.erd_shown.proofs.contests_and_headers.write_contest.Goals as goal
 use Rattle.erd_shown.specs.KeyData.{array_of, shown_key_or_null}
 use Rattle.erd_shown.specs.ContentData.{carried_data, shown_name_named}
 

@@ -1,7 +1,7 @@
 use Rattle.erd_text.proofs.Common.{◌≡◌, ◌+◌, ◌++◌, drop, false, items_have_float, items_tokens, view, items_view}
 use Rattle.std.proofs.Common.{◌*◌}
 use Rattle.serde_json.specs.Data.{depth, items_depth}
-use Rattle.erd_shown.proofs.contents.+content.Given as goal
+use Rattle.erd_shown.proofs.contests_and_headers.+content.Given as goal
 use Rattle.erd_shown.specs.ContentData.{nodes_data}
 
 abbrev pub invariant-write_nodes-loop-item : goal.invariant-write_nodes-loop-item

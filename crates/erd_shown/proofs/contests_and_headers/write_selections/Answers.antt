@@ -1,7 +1,7 @@
 use Rattle.erd_text.proofs.Common.{◌≡◌, ◌++◌, List, map, sym, ap, ◌∙◌, subst, Data, view, value_tokens}
 use Rattle.std.specs.Prelude.{OnOk}
 use Rattle.std.proofs.lemmas.Simd.{map-map}
-use Rattle.erd_shown.proofs.contents.write_selections.Goals as goal
+use Rattle.erd_shown.proofs.contests_and_headers.write_selections.Goals as goal
 use Rattle.erd_shown.specs.KeyData.{array_of}
 use Rattle.erd_shown.specs.ContentData.{shown_name_named}
 

@@ -1,5 +1,5 @@
 use Rattle.erd_text.proofs.Common.{◌≡◌, ◌++◌, map, drop, items_of, items_tokens, view}
-use Rattle.erd_shown.proofs.contents.write_names.Given as goal
+use Rattle.erd_shown.proofs.contests_and_headers.write_names.Given as goal
 use Rattle.erd_shown.specs.ContentData.{shown_name_named}
 
 abbrev pub invariant-loop-value : goal.invariant-loop-value

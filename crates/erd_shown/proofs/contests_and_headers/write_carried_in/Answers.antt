@@ -4,7 +4,7 @@ use Rattle.serde_json.specs.View.{members_view}
 use Rattle.serde_json.proofs.Views.{Entry}
 use Rattle.erd_text.proofs.WholeValues.{whole_first, whole_rest}
 use Rattle.erd_shown.proofs.Written.{carried_one}
-use Rattle.erd_shown.proofs.contents.write_carried_in.Goals as goal
+use Rattle.erd_shown.proofs.contests_and_headers.write_carried_in.Goals as goal
 use Rattle.erd_shown.specs.ContentData.{carried_in, is_carried}
 
 pub loop-name-preserved : goal.loop-name-preserved
