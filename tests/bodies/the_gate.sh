@@ -1,8 +1,8 @@
 #!/usr/bin/env bash
 # Tries parts of the gate with an `rt` that only says what a real one says. tests/prove.sh runs once more where the prover lost a file,
-# and where anything else failed it doesn't. Another build of the kit with the same logic is told, and another logic is a failure.
-# tests/gate_parts.sh runs small parts. packaging/room.sh is told what is free, and packaging/needed.sh which tools are wanted. One line a
-# case.
+# and where anything else failed it doesn't; on few processors it has two crates proved beside each other. Another build of the kit with the
+# same logic is told, and another logic is a failure. tests/gate_parts.sh runs small parts. packaging/room.sh is told what is free, and
+# packaging/needed.sh which tools are wanted. One line a case.
 set -u
 . "$(dirname "$0")/../shared/start.sh" || exit 1
 . tests/shared/commands.sh
@@ -12,6 +12,7 @@ cat > "$work/bin/rt" <<'END'
 [ "$1" = ci ] || exec echo "$KIT"
 run=$(($(cat "$WORDS/runs" 2> /dev/null || echo 0) + 1))
 echo "$run" > "$WORDS/runs"
+echo "${RT_JOBS:-none}" > "$WORDS/jobs"
 cat "$WORDS/$run"
 grep -q ' 0 failed$' "$WORDS/$run"
 END
@@ -40,6 +41,20 @@ tried 'a lost file, and a goal that is open in another crate' 1 1 \
 tried 'a lost file, and tests that fail' 1 1 "$lost"$'\nrt: erd_meaning NOT PROVED\nrt: erd_rows: its tests FAILED\n0 passed, 3 failed'
 tried 'another file that could not be written' 1 1 \
     'error: the crate `erd_meaning` is proved, but antt could not write its statements (the disk is full)'$'\nrt: erd_meaning NOT PROVED\n1 passed, 2 failed'
+
+# beside NAME PROCESSORS MEMORY CRATES: how many crates it has proved beside each other
+beside() {
+    echo '3 passed, 0 failed' > "$WORDS/1"
+    rm -f "$WORDS/runs"
+    PATH=$work/bin:$PATH run env -u RT_JOBS tests/prove.sh "$2" "$3"
+    equal "$1" "$(cat "$WORDS/jobs")" "$4"
+}
+
+beside 'two processors, and memory for two crates' 2 20000 2
+beside 'three processors' 3 20000 2
+beside 'less memory' 2 19999 none
+beside 'one processor' 1 20000 none
+beside 'four processors' 4 20000 none
 
 # kit NAME STATUS NOTICES: what tests/pages/facts_and_links.py says of the kit $KIT
 kit() {
