@@ -969,8 +969,8 @@ def shown_value(resolved, member, value):
     return value
 
 
-# PROFILE.md, 'What a voter sees': the members of the meaning that no ballot shows. 'The other members' are seen or in doubt. Beside
-# these, 'ExternalIdentifier' is unseen in every class.
+# PROFILE.md, 'What a voter sees': the members of the meaning that are unseen: 'no ballot shows' them. Beside these,
+# 'ExternalIdentifier' is unseen in every class.
 UNSEEN = {
     'ReportingUnit': {'AuthorityIds', 'IsDistricted', 'IsMailOnly'},
     'Party': {'LeaderPersonIds', 'PartyScopeGpUnitIds'},

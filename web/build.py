@@ -18,7 +18,6 @@ import tempfile
 # The build leaves no files beside its sources.
 sys.dont_write_bytecode = True
 import fixes  # noqa: E402
-import seen  # noqa: E402
 
 ROOT = pathlib.Path(__file__).resolve().parent.parent
 SCRIPTS = ROOT / 'web' / 'scripts'
@@ -137,10 +136,9 @@ def texts_of(language):
 
 
 def tables(texts, template):
-    """The tables that the scripts read: texts, fixes, what a voter sees, and what the page makes its own sum from."""
+    """The tables that the scripts read: texts, fixes, and what the page makes its own sum from."""
     explanations = {language: fixes.read(path) for language, path in LANGUAGES.items()}
-    return json_text({'texts': texts, 'fixes': explanations, 'seen': seen.read(ROOT / 'docs' / 'PROFILE.md'), 'version': version(),
-                      'language': LANGUAGE, 'template': template})
+    return json_text({'texts': texts, 'fixes': explanations, 'version': version(), 'language': LANGUAGE, 'template': template})
 
 
 def licences():

@@ -54,10 +54,10 @@ PARTS = [f'node tests/page/{name}.mjs' for name in ('parts', 'lines', 'words', '
 PYTHON_TESTS = ('rows', 'library', 'calls', 'ballots', 'prepare', 'resume', 'suite', 'commands', 'from_xml', 'many')
 # Which parts of the page in a browser concern which of its modules, the last line all others. What a part notices of another module is not asked.
 BROWSED = {
-    'overview ballots printed': 'ballot* columns sheets text_changes alignment overview card search',
+    'overview ballots printed': 'ballot* columns sheets text_changes alignment overview unprinted card search',
     'many': 'many csv survey',
     'prepared': 'prepar* copy_mark',
-    'record filed notices voter': 'record findings notices envelope seen* sums page_sum digest',
+    'record filed notices voter': 'record findings notices envelope printed seen_box sums page_sum digest',
     'flows results named keyboard': '*',
 }
 

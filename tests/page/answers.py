@@ -9,6 +9,7 @@ import re
 import sys
 
 from session import ROOT, SUITE
+from voters_table import words_of_voters
 
 TEXTS = json.loads((ROOT / 'web' / 'texts.en.json').read_text(encoding='utf-8'))
 VERSION = (ROOT / 'VERSION').read_text(encoding='utf-8').strip()
@@ -40,19 +41,8 @@ def fixes():
     return dict(section_of_fixes(heading, body) for heading, body in zip(parts[::2], parts[1::2]))
 
 
-def seen():
-    """For each class the word of each of its members, as the table "What a voter sees" of docs/PROFILE.md has them."""
-    table = (ROOT / 'docs' / 'PROFILE.md').read_text(encoding='utf-8').split('## What a voter sees\n')[1].split('\n## ')[0]
-    words = {}
-    for row in re.findall(r'^\| (.*) \|$', table, re.M):
-        classes, members, word, _ = row.split(' | ')
-        for name in classes.split(', '):
-            words.setdefault(name, {}).update(dict.fromkeys(members.replace('`', '').split(', '), word))
-    return words
-
-
 FIXES = fixes()
-SEEN = seen()
+SEEN = words_of_voters()
 
 
 class Fault:

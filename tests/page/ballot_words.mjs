@@ -1,7 +1,6 @@
 // Tries that the page's ballots have what a voter needs, on one small report that is written out here: each statement on a
 // measure, each party of a candidate, how votes are counted, and what only one file says of an order. One line for each case
 // that fails; at the end stand the counts.
-import { notOnBallots } from '../../web/scripts/difference_groups.mjs';
 import { ballotsOf } from './answered.mjs';
 import { counts, equal } from './counted.mjs';
 import { identified, label, typed } from './made.mjs';
@@ -119,15 +118,4 @@ for (const [name, at, role] of LACKING) {
     equal(`without ${name}: it is marked`, line.texts.flatMap(({ pieces }) => pieces.map(({ mark }) => mark)), ['removed']);
 }
 
-// Where ballots differ, what a voter sees is on them, but for what differs in an election. What is in doubt is told beside them, and where no
-// ballot differs all that a voter may see is.
-const entry = (part, word, member = 'Name') => ({ part, how: 'member', member, word });
-const leftOut = (part, word, differing) => notOnBallots([entry(part, word)], differing).leftOut.length;
-const LEFT_OUT = [['contest', 'seen', 0, 1], ['contest', 'in doubt', 1, 1], ['unit', 'in doubt', 1, 1], ['election', 'seen', 1, 1], ['party', 'unseen', 0, 0]];
-for (const [part, word, beside, alone] of LEFT_OUT) {
-    equal(`left out of ballots: ${part}, ${word}`, [leftOut(part, word, 2), leftOut(part, word, 0)], [beside, alone]);
-}
-const { noBallot, unseen } = notOnBallots([['unseen', 'IsDistricted'], ['seen', 'Name'], ['unseen', 'IsMailOnly'], ['unseen', 'IsMailOnly']]
-    .map(([word, member]) => entry('unit', word, member)), 1);
-equal('what no ballot shows', [unseen, noBallot.map(({ member, count }) => [member, count])], [3, [['IsMailOnly', 2], ['IsDistricted', 1]]]);
 counts();

@@ -14,7 +14,7 @@ const VALUES = {
 };
 // What only scripts look for, and what is said of a thing by its class.
 const UNSTYLED = words('envelope no-ballot left-out shown-count others trouble offer own-offer own-view codes reworded pointer names kinds save faults '
-    + 'converted copied copy prepared-copy folded hidden-maybe hidden-unseen value signed finding on-ballots rest none sheet-file sheet-same goes-on column '
+    + 'converted copied copy prepared-copy folded unprinted value signed finding on-ballots rest none sheet-file sheet-same goes-on column '
     + 'begins ends continued filled-in visible view numbers prepare-progress precincts');
 const sheets = ['style', 'results', 'print'].map((name) => readFileSync(new URL(`../../web/${name}.css`, import.meta.url), 'utf8')).join('');
 const CLASSES = new Set([...sheets.matchAll(/\.([a-z][\w-]*)/g)].map(([, name]) => name));

@@ -9,17 +9,14 @@ import { counts, equal, ROOT } from './counted.mjs';
 
 const SUITE = new URL('out/conformance/', ROOT);
 const erd = await load(readFileSync(new URL('out/portable/erd.wasm', ROOT)));
-// What a voter sees, by class: a class that has no words here has none for its members.
-const WORDS = { Candidate: { BallotName: 'seen', FileDate: 'unseen' }, CandidateContest: { VotesAllowed: 'seen' } };
-const SEEN = new Proxy(WORDS, { get: (words, name) => words[name] ?? {} });
 const quiet = () => {};
 const sumOf = (bytes) => createHash('sha256').update(bytes).digest('hex');
 const textOf = (bytes) => new TextDecoder('utf-8', { ignoreBOM: true }).decode(bytes);
 const linesOf = (text) => text.split('\n').slice(0, -1);
 const OUTCOMES = { 'accepted\n': 'accepted', 'not JSON\n': 'notJson' };
 
-function judgementOf(files, prefer = null, seen = SEEN) {
-    return new Judgement(erd, files.map((bytes, at) => new File([bytes], `${'ab'[at]}.json`)), prefer, seen);
+function judgementOf(files, prefer = null) {
+    return new Judgement(erd, files.map((bytes, at) => new File([bytes], `${'ab'[at]}.json`)), prefer);
 }
 
 // ---- the suite
@@ -123,7 +120,7 @@ async function tryTwo(name, files, prefer) {
 const long = judgementOf([Buffer.alloc(67108865, ' '), Buffer.from('{')]);
 equal('a file that is too long, and one that is not JSON', (await long.verdict(quiet)).files.map(({ outcome, size }) => [outcome, size]),
     [['tooLong', 67108865], ['notJson', 1]]);
-const gone = new Judgement(erd, [{ name: 'a.json', size: 5, stream: () => { throw new Error('gone'); } }], null, SEEN);
+const gone = new Judgement(erd, [{ name: 'a.json', size: 5, stream: () => { throw new Error('gone'); } }], null);
 equal('a file that is gone', (await gone.verdict(quiet)).files.map(({ outcome, size }) => [outcome, size]), [['unreadable', 5]]);
 equal('it has no sums', await gone.sums({}, quiet), [{}]);
 
@@ -207,6 +204,53 @@ const piecesIn = ({ texts }) => texts.flatMap(({ pieces }) => pieces.map(({ text
 const { key } = pair.styles({ words: '', group: 'differing', from: 0, count: 1 }, quiet).entries[0];
 const printed = pair.ballot({ key, next: null }, quiet).items.flatMap(linesIn).flatMap(piecesIn);
 equal('a ballot of both files has both names', printed.filter((text) => /Ingri(th|d)$/.test(text)), ['removed Ingrith', 'added Ingrid']);
+
+// ---- what a voter sees of a change: how many ballots differ, what they leave out that a voter may see, and what no ballot prints
+
+const otherCode = (more = {}) => ({ '@type': 'ElectionResults.ExternalIdentifier', Type: 'state-level', Value: '9', ...more });
+const another = (object, Value, more = {}) => ({ ...object, ExternalIdentifier: [{ ...object.ExternalIdentifier[0], Value }], ...more });
+const VOTER = {
+    'the mark of a district': [({ GpUnit: [precinct] }) => { precinct.IsDistricted = true; }, 0, [], ['unit IsDistricted']],
+    'the mark of a district, off in one file': [({ GpUnit: [precinct] }) => { precinct.IsDistricted = false; }, 0, [], ['unit IsDistricted']],
+    'the type of a precinct': [({ GpUnit: [precinct] }) => { precinct.Type = 'ward'; }, 1, ['unit Type'], []],
+    'the type of a county': [({ GpUnit: [, county] }) => { county.Type = 'city'; }, 0, ['unit Type'], []],
+    'what a precinct carries': [({ GpUnit: [precinct] }) => { precinct.Phone = '555'; }, 1, ['unit Phone'], []],
+    'the day on which a candidate filed': [(_, { Candidate: [cy] }) => { cy.FileDate = '2026-05-01'; }, 0, [], ['candidate FileDate']],
+    'the slogan of a candidate': [(_, { Candidate: [cy] }) => { cy.CampaignSlogan = 'Roofs first'; }, 1, [], []],
+    'the work of a person': [({ Person: [ann] }) => { ann.Profession = 'Teacher'; }, 1, [], []],
+    'a person whom nobody names': [(one) => { one.Person.push(another(one.Person[0], 'Q2', { '@id': 'q2' })); }, 0, ['person only right'], []],
+    'the name of a party': [({ Party: [blue] }) => { blue.Name = 'Azure'; }, 1, ['party Name'], []],
+    'a party that is a coalition': [({ Party: [blue] }) => { blue['@type'] = 'ElectionResults.Coalition'; }, 0, ['party other class'], []],
+    'the name of a header': [({ Header: [state] }) => { state.Name = 'Nation'; }, 1, [], []],
+    'the name of an office': [({ Office: [governor] }) => { governor.Name = 'Mayor'; }, 0, ['office Name'], []],
+    'another code of an office': [({ Office: [governor] }) => { governor.ExternalIdentifier.push(otherCode()); }, 0, [], ['office ExternalIdentifier']],
+    'a note on another code of an office': [({ Office: [governor] }) => { governor.ExternalIdentifier.push(otherCode({ Note: 'x' })); }, 0,
+        ['office ExternalIdentifier'], []],
+    'the name of the election': [(_, election) => { election.Name = 'Trial'; }, 0, ['election Name'], []],
+    'the names of the election and of a candidate': [(_, election) => {
+        election.Name = 'Trial';
+        election.Candidate[0].BallotName = 'Cyd';
+    }, 1, ['election Name'], []],
+    'a test': [(one) => { one.IsTest = true; }, 0, ['report IsTest'], []],
+    'how many go to a runoff': [(_, { Contest: [governor] }) => { governor.NumberRunoff = 2; }, 0, [], ['contest NumberRunoff']],
+    'a choice that says that it is for no write-in': [(_, { Contest: [governor] }) => { governor.ContestSelection[1].IsWriteIn = false; }, 1, [], []],
+    'the order of choices': [(_, { BallotStyle: [style] }) => { style.OrderedContent[0].OrderedContent[0].OrderedContestSelectionIds.reverse(); }, 1, [], []],
+    'who gets a ballot, and a note on it': [(_, { BallotStyle: [style] }) => { Object.assign(style, { GpUnitIds: ['a1', 'a2'], Note: 'x' }); }, 1,
+        ['style Note'], []],
+    'a note on the content of a ballot': [(_, { BallotStyle: [style] }) => { style.OrderedContent[1].Note = 'x'; }, 0, ['style OrderedContent'], []],
+    'another code of a ballot style': [(_, { BallotStyle: [style] }) => { style.ExternalIdentifier.push(otherCode()); }, 0, ['style ExternalIdentifier'], []],
+    'another ballot style': [(_, election) => { election.BallotStyle.push(another(election.BallotStyle[0], 'S2')); }, 1, [], []],
+};
+const small = example('small-ballot.json');
+for (const [name, [change, differing, leftOut, noBallot]] of Object.entries(VOTER)) {
+    const made = JSON.parse(textOf(small));
+    change(made, made.Election[0]);
+    const judgement = judgementOf([small, Buffer.from(JSON.stringify(made))]);
+    await judgement.verdict(quiet);
+    const { seen } = judgement.list({}, quiet);
+    equal(`a voter: ${name}`, [seen.ballots.differing, ...[seen.leftOut, seen.noBallot].map((kinds) => kinds.map(({ part, how, member }) => `${part} ${member ?? how}`))],
+        [differing, leftOut, noBallot]);
+}
 
 // ---- two elections in one file: each voter gets a ballot in each of them
 

@@ -12,8 +12,8 @@ import { kindsOf } from '../../web/scripts/fault_kinds.mjs';
 import { insideOf } from '../../web/scripts/inside.mjs';
 import { whyAlike } from '../../web/scripts/look_alikes.mjs';
 import { foundPlaces } from '../../web/scripts/places.mjs';
+import { isOnBallots, printOf } from '../../web/scripts/printed.mjs';
 import { rowsOfDifference } from '../../web/scripts/rows.mjs';
-import { wordOf } from '../../web/scripts/seen.mjs';
 import { codeOf } from '../../web/scripts/sums.mjs';
 import { mergedText, piecesOfBoth } from '../../web/scripts/text_changes.mjs';
 import { NotJson, Scanner } from '../../bindings/js/lib/scanner.mjs';
@@ -169,15 +169,43 @@ const kinds = kindsOf([{ place: ['a', 'VoteCounts'], reason: 5 }, { place: [], r
 equal('kinds of faults', kinds.map(({ reason, faults, names: some }) => [reason, faults.length, some]),
     [[5, 2, [['VoteCounts', 2]]], [2, 1, [['Name', 1]]], [1, 1, []]]);
 
-// What a voter sees, by the rules below the table of docs/PROFILE.md.
-const table = { Contest: { Name: 'seen', FileDate: 'unseen' }, ElectionReport: { Person: 'in doubt' } };
-const wordsOf = [[{ part: 'contest', how: 'member', member: 'Name' }, 'seen'], [{ part: 'contest', how: 'member', member: 'FileDate' }, 'unseen'],
-    [{ part: 'contest', how: 'member', member: 'Carried' }, 'in doubt'], [{ part: 'contest', how: 'member', member: 'toString' }, 'in doubt'],
-    [{ part: 'contest', how: 'member', member: 'ElectionId' }, 'seen'], [{ part: 'person', how: 'only left' }, 'in doubt']];
-wordsOf.forEach(([difference, word]) => equal(`the word of ${JSON.stringify(difference)}`, wordOf(table, difference, 'Contest'), word));
-const wordless = { ElectionReport: { TestType: 'in doubt' }, BallotStyle: { GpUnitIds: 'seen' } };
-equal('the words of objects that have none of their own', [['report', 'TestType'], ['style', 'GpUnitIds'], ['style', 'Carried']]
-    .map(([part, member]) => wordOf(wordless, { part, how: 'member', member })), ['in doubt', 'seen', 'in doubt']);
+// How ballots print what differs: it is a word of the object in one file at least; a voter may see it beside words; or no ballot prints it.
+const wordly = (names, selections = {}) => ({ words: Object.fromEntries(names.map((name) => [name, 1])), selections: new Map(Object.entries(selections)) });
+const member = (name, more = {}) => ({ part: 'contest', how: 'member', member: name, ...more });
+const codes = (...some) => some.map((more) => ({ '@type': 'ElectionResults.ExternalIdentifier', Type: 'fips', Value: '1', ...more }));
+const identifiersThat = (left, right) => member('ExternalIdentifier', { values: { left, right } });
+const sides = [wordly(['Name', '__proto__'], { '["a"]': { IsWriteIn: true } }), wordly(['Name', 'Note'], { '["a"]': {} })];
+const selections = (...some) => member('ContestSelection', { selections: some.map((one) => ({ how: 'member', name: ['a'], ...one })) });
+const newCode = { member: 'ExternalIdentifier', values: { left: codes({}), right: codes({}, { Value: '2' }) } };
+const PRINTS = {
+    'a word in both files': [member('Name'), 'words'], 'a word in the second file': [member('Note'), 'words'],
+    'no word': [member('NumberRunoff'), 'none'], 'no word, with the name of a method': [member('toString'), 'none'],
+    'a word with an odd name': [member('__proto__'), 'words'], 'an object of one file': [{ part: 'office', how: 'only right' }, 'words'],
+    'another class': [{ part: 'contest', how: 'other class' }, 'beside'], 'another election': [member('ElectionId'), 'beside'],
+    'another code': [identifiersThat(codes({}), codes({ Value: '2' })), 'none'],
+    'one code more, of one file alone': [identifiersThat(undefined, codes({ OtherType: 'x' })), 'none'],
+    'what a code carries': [identifiersThat(codes({ Label: 'x' }), codes({ Label: 'y' })), 'beside'],
+    'selections that are not told': [member('ContestSelection'), 'beside'], 'a selection of one file': [selections({ how: 'only left' }), 'words'],
+    'a word of a selection, which one file has': [selections({ member: 'IsWriteIn' }), 'words'],
+    'the codes of selections': [selections(newCode, newCode), 'none'],
+    'the codes of a selection that are too long': [selections({ ...newCode, values: null }), 'beside'],
+    'a selection that nothing is known of': [selections({ member: 'Note', name: ['b'] }), 'beside'],
+    'much of selections': [selections(newCode, { member: 'IsWriteIn' }, { ...newCode, values: null }), 'beside'],
+};
+Object.entries(PRINTS).forEach(([name, [difference, print]]) => equal(`how ballots print ${name}`, printOf(difference, sides), print));
+equal('how ballots print what has no words', [member('IsTest'), member('ExternalIdentifier', { values: {} })].map((one) => printOf(one, [])), ['beside', 'beside']);
+
+// Which differences the ballots that differ tell: words of what the proved code compares, and of a style what its ballot says.
+const told = (part, print = 'words', more = {}, below = '') => isOnBallots({ part, how: 'member', member: 'Name', print, ...more }, below);
+equal('the words that ballots compare', ['header', 'contest', 'candidate', 'person'].map((part) => told(part)), [true, true, true, true]);
+equal('the words that ballots compare in part, or not at all', ['unit', 'party', 'office', 'election', 'report'].map((part) => told(part)),
+    [false, false, false, false, false]);
+equal('what stands beside words', told('contest', 'beside'), false);
+const BELOW = '  changed units\n  moved contest ["a","","  changed parties"]\n';
+const ofStyle = (name, below) => told('style', 'beside', { member: name }, below);
+equal('a ballot style', [ofStyle('GpUnitIds', BELOW), ofStyle('PartyIds', BELOW), ofStyle('OrderedContent', BELOW), ofStyle('Note', BELOW),
+    ofStyle('toString', BELOW), ofStyle('OrderedContent', ''), ofStyle('GpUnitIds', null), told('style', 'words', { how: 'only left' })],
+[true, false, true, false, false, false, false, true]);
 
 const county = readFileSync(new URL('examples/county.canonical.json', ROOT), 'utf8');
 const wordsOfText = (text) => wordsIn(encoder.encode(text));

@@ -100,7 +100,7 @@ def after_election(session):
 
 
 def seen(session):
-    """Whether a voter sees a difference, for each word of the table."""
+    """Whether a voter sees a difference, and whether the ballots tell it."""
     def changed(change):
         report = small()
         change(report)
@@ -119,9 +119,9 @@ def seen(session):
     session.equal('what a voter sees: the name of the election', session.text('.seen h3'), answers.say('seen.shownSame'))
     session.equal('the box of the name of the election', session.browser.script("return document.querySelector('.seen').className"), 'seen touched')
     session.judged(SMALL, changed(lambda report: report['Person'][0]['ExternalIdentifier'][0].update(Value='new')))
-    # A candidate is another person's then, which some ballots show, and those of the page do not.
-    session.equal('what a voter sees: another person', [session.text('.seen h3'), session.text('.seen h3 + p')],
-                  [answers.say('seen.differ', differing=1, all=1), answers.say('seen.leftOut')])
+    # A candidate is another person's then, which the ballots tell.
+    session.equal('what a voter sees: another person', [session.text('.seen h3'), session.texts('.seen .left-out li')],
+                  [answers.say('seen.differ', differing=1, all=1), []])
     session.equal('what a voter sees: another person, in a sentence', session.texts('.finding > summary'),
                   ['Governor, on 1 of 1 ballots: ' + answers.say('finding.changed')])
 

@@ -23,7 +23,7 @@ def made(*styles, **members):
 def run(session):
     card(session)
     troubles(session)
-    hidden(session)
+    unprinted(session)
     sentences(session)
     filtered(session)
 
@@ -56,24 +56,18 @@ def troubles(session):
                     [['North', 'South', 'East'], ['Measure 2 (local-level M)']])
 
 
-def hidden(session):
-    """The members that no ballot shows: those that a voter may see, by the table of the profile, and the others. A flag that is off is not one."""
+def unprinted(session):
+    """The members that no ballot has. A flag that is off is not one."""
     one = made(WHOLE, WHOLE)
     one['GpUnit'][0] |= {'IsDistricted': True, 'Phone': '555'}
-    one['Election'][0]['Candidate'][0] |= {'CampaignSlogan': 'Roofs first', 'IsIncumbent': True}
+    one['Election'][0]['Candidate'][0] |= {'CampaignSlogan': 'Roofs first', 'FileDate': '2026-05-01', 'IsIncumbent': True}
     one['Election'][0]['Candidate'][1]['IsIncumbent'] = False
-    session.judged(written(session, 'hidden.json', one))
+    session.judged(written(session, 'unprinted.json', one))
     session.browser.script("document.querySelectorAll('#card details').forEach((one) => { one.open = true; })")
-    wanted = {
-        'maybe': ['Candidates: campaign slogan (CampaignSlogan), 1 time', 'Contests: district (ElectionDistrictId), 2 times', 'Elections: type (Type), 1 time',
-                  'Elections: area of the election (ElectionScopeId), 1 time', 'Elections: last day (EndDate), 1 time', 'Units: Phone, 1 time',
-                  'Units: type (Type), 4 times'],
-        'unseen': ['The report: status (Status), 1 time', 'Units: mark of a district (IsDistricted), 1 time',
-                   *(f'{parts}: external identifiers (ExternalIdentifier), {count} times'
-                     for parts, count in (('Ballot styles', 2), ('Candidates', 2), ('Contests', 2), ('Units', 4)))],
-    }
-    for name, lines in wanted.items():
-        session.becomes(f'card: members that no ballot shows, {name}', lambda: sorted(session.texts(f'.hidden-{name} li')), sorted(lines))
+    session.becomes('card: members that no ballot has', lambda: sorted(session.texts('.unprinted li')), [
+        'Candidates: day of filing (FileDate), 1 time', *(f'{parts}: external identifiers (ExternalIdentifier), {count} times'
+                                                           for parts, count in (('Candidates', 2), ('Contests', 2), ('Units', 4))),
+        'Units: mark of a district (IsDistricted), 1 time'])
 
 
 # Of each case the lists of the right file, and the sentences. The left file has all lines on two ballots.

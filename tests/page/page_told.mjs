@@ -36,7 +36,7 @@ const fixes = { alike: {}, 'not JSON': FIX };
 const template = '{{text:title}}|{{policy}}|{{style}}|{{tables}}|{{wasm}}|{{examples}}|{{licences}}|{{documents}}|{{worker}}|{{script}}|'
     + '{{version}}|{{language}}';
 const PARTS = {
-    tables: packed({ texts: { en: { ...TEXTS, title: 'A & <b>' }, es: SPANISH }, fixes: { en: fixes, es: fixes }, version: '9.8', language: 'en', seen: {},
+    tables: packed({ texts: { en: { ...TEXTS, title: 'A & <b>' }, es: SPANISH }, fixes: { en: fixes, es: fixes }, version: '9.8', language: 'en',
         template }),
     wasm: packed('WASM'), worker: packed('OWN'), 'examples-data': packed({ 'county.vendor-a.json': '{"a":1}', 'county.vendor-b.json': '{"b":1}' }),
     'licences-data': packed('THE LICENCES'), 'documents-data': packed({ profile: 'THE PROFILE', letter: 'DEAR VENDOR' }),
@@ -68,8 +68,7 @@ const ANSWERS = {
     verdict: () => ({ files: opened.at(-1).files.map(({ size }) => ({ outcome: 'accepted', size })),
         comparison: opened.at(-1).files.length === 1 ? null : { same: true } }),
     sums: () => opened.at(-1).files.map((_, at) => accepted([ONE, OTHER][at])),
-    overview: () => ({ counts: {}, precincts: { all: 0, none: 0, several: 0 }, unlisted: { count: 0, names: [] },
-        hidden: { maybe: { count: 0 }, unseen: { count: 0 } } }),
+    overview: () => ({ counts: {}, precincts: { all: 0, none: 0, several: 0 }, unlisted: { count: 0, names: [] }, unprinted: { count: 0 } }),
     languages: () => [], survey: () => ({ outcome: 'notJson', repeated: 0, isTest: false, notes: null, converted: null }),
 };
 let answers = { ...ANSWERS };

@@ -346,23 +346,23 @@ const member = (one, name) => ({ part: 'unit', key: ['fips', '', one], how: 'mem
 equal('how many objects differ', talliesOf([member('1', 'Name'), member('1', 'Type'), member('2', 'Name'), ...onlyOf('only right', ['A'])]),
     [{ part: 'unit', 'only left': 0, 'only right': 0, differ: 2, members: 3 }, { part: 'person', 'only left': 0, 'only right': 1, differ: 0, members: 0 }]);
 
-// The words of differences, and their kinds. What identifiers carry is in doubt.
-const SEEN = { CandidateContest: { Name: 'seen', ExternalIdentifier: 'unseen', NumberElected: 'in doubt' } };
+// How ballots print differences, and their kinds. The contest has no number of seats for a runoff, which no ballot prints.
 const carrying = (...notes) => notes.map((Note) => ({ ...code, ...(Note === null ? {} : { Note }) }));
 const list = [of('ExternalIdentifier', [code], [{ ...code, Value: '8' }]), of('ExternalIdentifier', carrying(1), carrying(2)),
-    of('Name', 'a', 'b'), of('NumberElected', 1, 2), of('ExternalIdentifier', undefined, carrying(null, 5))];
-const differences = new Differences(list, 9, () => null, both, SEEN);
-const wordsOf = (entries) => entries.map(({ number, word }) => [number, word]);
-equal('the words of differences', wordsOf(differences.some({ from: 0, count: 9 })),
-    [[0, 'unseen'], [1, 'in doubt'], [2, 'seen'], [3, 'in doubt'], [4, 'in doubt']]);
-equal('what weighs most is filed first', wordsOf(differences.some({ isFiled: true, from: 0, count: 3 })), [[2, 'seen'], [1, 'in doubt'], [3, 'in doubt']]);
-equal('some of one kind', wordsOf(differences.some({ kind: 0, from: 1, count: 1 })), [[1, 'in doubt']]);
+    of('Name', 'a', 'b'), of('NumberRunoff', 1, 2), of('ExternalIdentifier', undefined, carrying(null, 5))];
+const differences = new Differences(list, 9, () => null, both);
+const printsOf = (entries) => entries.map(({ number, print }) => [number, print]);
+equal('how ballots print differences', printsOf(differences.some({ from: 0, count: 9 })),
+    [[0, 'none'], [1, 'beside'], [2, 'words'], [3, 'none'], [4, 'beside']]);
+equal('what a voter may see is filed first', printsOf(differences.some({ isFiled: true, from: 0, count: 9 })),
+    [[1, 'beside'], [2, 'words'], [4, 'beside'], [0, 'none'], [3, 'none']]);
+equal('some of one kind', printsOf(differences.some({ kind: 0, from: 1, count: 1 })), [[1, 'beside']]);
 const told = differences.told({ all: 2, differing: 1 });
 equal('what is told of the list', [told.count, told.listed, told.first.number, told.seen.unseen, told.kinds.map(({ member: name, count }) => [name, count])],
-    [9, 5, 0, 1, [['ExternalIdentifier', 3], ['Name', 1], ['NumberElected', 1]]]);
+    [9, 5, 0, 2, [['ExternalIdentifier', 3], ['Name', 1], ['NumberRunoff', 1]]]);
 const unnamed = new Differences(list, 5);
 equal('a list without names', [unnamed.told(null).seen, unnamed.some({ from: 2, count: 1 })
-    .map(({ word, titles, rows }) => [word ?? 'none', titles, rows.length])], [null, [['none', [null, null], 1]]]);
+    .map(({ print, titles, rows }) => [print ?? 'unknown', titles, rows.length])], [null, [['unknown', [null, null], 1]]]);
 
 // ---- a worker that ends, or that can't begin
 

@@ -12,7 +12,6 @@ import { readXml } from '../../web/scripts/from_xml/reading.mjs';
 import { whyAlike } from '../../web/scripts/look_alikes.mjs';
 import { otherFile } from '../../web/scripts/other_file.mjs';
 import { CopyMaker } from '../../web/scripts/prepare_copy.mjs';
-import { wordOf, WORDS } from '../../web/scripts/seen.mjs';
 import { trailOf } from '../../web/scripts/trail.mjs';
 import { unprintedIn } from '../../web/scripts/unprinted.mjs';
 import { passageOf } from '../../web/scripts/visible.mjs';
@@ -149,7 +148,7 @@ for (const [name, [answer, words]] of Object.entries(WHYS)) {
 
 const ROWS = [{ name: 'North', code: 'P-1', codes: ['S-1', 'S-2'], count: 4 }, { name: 'South', code: 'P-2', codes: [], count: 0 }];
 const OVERVIEW = { counts: {}, precincts: { all: 2, none: 1, several: 0 }, unlisted: { count: 3, names: [{ name: 'Mayor', code: 'C-1' }] },
-    hidden: { maybe: { count: 1, kinds: [{ part: 'unit', how: 'member', member: 'Type', count: 2 }] }, unseen: { count: 0 } } };
+    unprinted: { count: 1, kinds: [{ part: 'unit', how: 'member', member: 'IsMailOnly', count: 2 }] } };
 const client = { ask: async (kind, question) => ({ overview: OVERVIEW, languages: ['es', 'en'],
     precincts: (question.group === 'none' ? ROWS.slice(1) : ROWS).slice(question.from, question.from + question.count) })[kind] };
 const card = await cardOf({ client, tell() {}, isLarge: true, sums: { elections: [], isTest: false, envelope: {} } });
@@ -160,32 +159,32 @@ equal('card: its rows', below(card, 'div').filter(({ children }) => children[0]?
     ['Kind of filenot marked as a test', 'Objects2 precincts', 'LanguagesEnglish (en), Spanish (es)']);
 const folded = below(card, 'details').slice(1);
 equal('card: what is folded', folded.map((one) => below(one, 'summary')[0].textContent), ['1 precinct is on no ballot style', '3 contests are on no ballot',
-    'All 2 precincts and their ballot styles', '1 kind of member that a voter may see is on none of the ballots below']);
+    'All 2 precincts and their ballot styles', '1 kind of member that no ballot has']);
 folded.forEach((one) => one.listeners.toggle());
 await wait();
 equal('card: precincts without a ballot', [texts(folded[0], 'th'), texts(folded[0], 'td')], [['Precinct', 'Code', 'Ballot styles', 'South'], ['P-2', 'none']]);
 equal('card: contests on no ballot, of which some are named', texts(folded[1], 'li'), ['Mayor (C-1)', 'and 2 more']);
 equal('card: all precincts, with some of their ballot styles', [texts(folded[2], 'th').slice(3), texts(folded[2], 'td')],
     [['North', 'South'], ['P-1', 'S-1, S-2 and 2 more', 'P-2', 'none']]);
-equal('card: members that no ballot shows', texts(folded[3], 'li'), ['Units: type (Type), 2 times']);
+equal('card: members that no ballot has', texts(folded[3], 'li'), ['Units: mark of voting by mail only (IsMailOnly), 2 times']);
 
 // ---- the list of differences, what another file is, and the worker
 
 const NAME = ['ElectionResults.CandidateSelection', [['local-level', '', 'K']], false, null, null, null];
 const key = ['local-level', '', 'C'];
 const LISTED = [{ part: 'contest', key, how: 'member', member: 'ContestSelection', selections: [{ how: 'only left', name: NAME }] },
-    { part: 'contest', key, how: 'member', member: 'Name', values: { left: 'A', right: 'B' } }];
-const called = (part) => ({ title: `The ${part}`, className: 'CandidateContest' });
-const listed = (names, seen) => new Differences(LISTED, 9, () => null, names, seen);
-const known = listed([called, called], { CandidateContest: { Name: 'unseen', ContestSelection: 'seen' } });
-equal('differences: what differs inside, and which values', known.some({ from: 0, count: 2 }).map(({ inside, rows, word, titles }) => (
-    [inside?.entries.map(({ how, name }) => `${how} ${name}`), rows?.map(({ left, right }) => `${left.text} ${right.text}`), word, titles])),
-[[['only left Candidate “The candidate” (local-level K)'], null, 'seen', ['The contest', 'The contest']],
-    [null, ['“A” “B”'], 'unseen', ['The contest', 'The contest']]]);
+    { part: 'contest', key, how: 'member', member: 'NumberRunoff', values: { left: 3, right: 4 } }];
+const called = (part) => ({ title: `The ${part}`, words: { Name: `The ${part}` }, selections: new Map() });
+const listed = (names) => new Differences(LISTED, 9, () => null, names);
+const known = listed([called, called]);
+equal('differences: what differs inside, and which values', known.some({ from: 0, count: 2 }).map(({ inside, rows, print, titles }) => (
+    [inside?.entries.map(({ how, name }) => `${how} ${name}`), rows?.map(({ left, right }) => `${left.text} ${right.text}`), print, titles])),
+[[['only left Candidate “The candidate” (local-level K)'], null, 'words', ['The contest', 'The contest']],
+    [null, ['3 4'], 'none', ['The contest', 'The contest']]]);
 // What either file has in the members of selections in which they differ, by what the files call the objects that a value names.
 const ofSelection = (member, values) => ({ how: 'member', name: NAME, member, ...(values === undefined ? {} : { values }) });
 const ours = (part) => ({ ...called(part), title: `Our ${part}` });
-const selectionsOf = (...selections) => new Differences([{ ...LISTED[0], selections }], 1, () => null, [called, ours], { CandidateContest: {} })
+const selectionsOf = (...selections) => new Differences([{ ...LISTED[0], selections }], 1, () => null, [called, ours])
     .some({ from: 0, count: 1 })[0].inside.entries;
 const P = ['fips', '', 'P'];
 const identifiedBy = (Value) => ({ '@type': 'ElectionResults.ExternalIdentifier', Type: 'fips', Value });
@@ -210,10 +209,10 @@ const manyNotes = (first) => Array.from({ length: 30 }, (_, at) => first + at);
 equal('selections: of very long values some rows', selectionsOf(ofSelection('Note', { left: manyNotes(0), right: manyNotes(100) }))
     .map(({ rows }) => [rows.length, rows.at(-1)]), [[21, { more: 10 }]]);
 equal('differences: those of one kind, and of a record', [known.some({ kind: 1, from: 0, count: 9 }), known.some({ isFiled: true, from: 1, count: 9 })]
-    .map((some) => some.map(({ member }) => member)), [['Name'], ['Name']]);
+    .map((some) => some.map(({ member }) => member)), [['NumberRunoff'], ['NumberRunoff']]);
 const { count, listed: number, seen, kinds, tallies } = known.told({ all: 3, differing: 1 });
 equal('differences: all together', [count, number, seen.ballots, seen.unseen, kinds.map((kind) => `${kind.member} ${kind.count}`), tallies],
-    [9, 2, { all: 3, differing: 1 }, 1, ['ContestSelection 1', 'Name 1'], [{ part: 'contest', 'only left': 0, 'only right': 0, differ: 1, members: 2 }]]);
+    [9, 2, { all: 3, differing: 1 }, 1, ['ContestSelection 1', 'NumberRunoff 1'], [{ part: 'contest', 'only left': 0, 'only right': 0, differ: 1, members: 2 }]]);
 equal('differences: without names, or without ballots, nothing is said of a voter', [listed(null).told({ all: 3, differing: 1 }).seen, known.told(null).seen],
     [null, null]);
 const fileOf = (text, place, name) => otherFile(new TextEncoder().encode(text),
@@ -230,7 +229,7 @@ globalThis.addEventListener = (name, call) => Object.assign(globalThis, { [name]
 globalThis.postMessage = (answer) => 'progress' in answer || answered.push(answer);
 await import('../../web/scripts/worker.mjs');
 const question = (asked, kind, more = {}) => globalThis.message({ data: { number: asked, kind, question: more } });
-question(1, 'start', { wasm: Uint8Array.from([0, 0x61, 0x73, 0x6d, 1, 0, 0, 0]), texts: {}, language: 'en', seen: {} });
+question(1, 'start', { wasm: Uint8Array.from([0, 0x61, 0x73, 0x6d, 1, 0, 0, 0]), texts: {}, language: 'en' });
 question(2, 'open', { files: [], prefer: null, converted: [] });
 question(3, 'verdict');
 ASKED.split(' ').forEach((kind, at) => question(4 + at, kind, { index: 0 }));
@@ -242,40 +241,34 @@ equal('worker: it answers each question in its order', answered.map((one) => one
 equal('worker: it knows each question, and no other', answered.filter(({ error }) => /ANSWERS/.test(error ?? '')).map((one) => one.number), [99]);
 useTexts(TEXTS, 'en');
 
-// ---- what the ballots of a file leave out, and the word of a difference
+// ---- what the ballots of a file leave out
 
 const filled = (names) => Object.fromEntries(names.split(' ').map((name) => [name, 'x']));
 const named = (className, names, others = {}) => ({ '@type': `ElectionResults.${className}`, ...filled(names), ...others });
 const FORM = {
-    '@type': 'ElectionResults.ElectionReport',
-    GpUnit: [named('ReportingUnit', 'Name Type')], Party: [named('Party', 'Name')], Office: [named('Office', 'Name')], Header: [named('Header', 'Name')],
-    Person: [named('Person', 'Profession FullName', { '@id': 'pe1' }), named('Person', 'Profession', { '@id': 'pe2' })],
+    '@type': 'ElectionResults.ElectionReport', ...filled('Status Format'),
+    GpUnit: [named('ReportingUnit', 'Name', { IsMailOnly: true }), named('ReportingUnit', 'Name IsDistricted Phone', { IsMailOnly: false })],
+    Party: [named('Party', 'Name', { '@id': 'pa1', LeaderPersonIds: ['pe1'] })], Office: [named('Office', 'Name', { IsPartisan: false })],
     Election: [named('Election', 'Name StartDate', {
-        Candidate: [named('Candidate', 'BallotName PartyId IsTopTicket IsIncumbent', { PersonId: 'pe1' })],
-        Contest: [named('CandidateContest', 'Name BallotTitle BallotSubTitle VotesAllowed VoteVariation OtherVoteVariation ContestSelection HasRotation'),
-            named('RetentionContest', 'CandidateId SummaryText FullText ProStatement ConStatement EffectOfAbstain PassageThreshold', { HasRotation: false })],
+        Candidate: [named('Candidate', 'BallotName FileDate')],
+        Contest: [named('CandidateContest', 'Name NumberRunoff', { ContestSelection: [named('CandidateSelection', 'ExternalIdentifier')] }),
+            named('RetentionContest', 'Name', { HasRotation: false })],
         BallotStyle: [named('BallotStyle', 'GpUnitIds PartyIds', {
             OrderedContent: [{ OrderedContent: [{ ContestId: 'co1' }] }], ExternalIdentifier: [{ Type: 'fips', Value: '20' }],
         })],
     })],
 };
-const CONTESTS = { of: () => new Map([['a', 'the first contest'], ['b', 'the second contest']]) };
-const TOLD = unprintedIn(FORM, CONTESTS, { BallotStyle: { ExternalIdentifier: 'unseen' } });
-const leftOut = (part, member) => ({ part, how: 'member', member, count: 1 });
-equal('a card: members that no ballot shows', TOLD.members, {
-    maybe: [leftOut('unit', 'Type'), leftOut('person', 'FullName'), leftOut('person', 'Profession'), leftOut('office', 'Name'),
-        leftOut('candidate', 'PersonId')],
-    unseen: [leftOut('style', 'ExternalIdentifier')],
-});
+const wordsOfPart = (part, names, others = {}) => ({ part, words: { ...filled(names), ...others } });
+const FORM_WORDS = {
+    of: () => new Map([['a', 'the first contest'], ['b', 'the second contest']]),
+    entries: [wordsOfPart('unit', 'Name'), wordsOfPart('unit', 'Name Phone'), wordsOfPart('party', 'Name'), wordsOfPart('office', 'Name', { IsPartisan: false }),
+        wordsOfPart('election', 'Name StartDate'), wordsOfPart('candidate', 'BallotName'), wordsOfPart('contest', 'Name'), wordsOfPart('contest', 'Name')],
+};
+const TOLD = unprintedIn(FORM, FORM_WORDS);
+equal('a card: members that are no words of their objects, each once', TOLD.members.map(({ part, member, count: some }) => `${part} ${member} ${some}`),
+    ['unit IsMailOnly 1', 'unit IsDistricted 1', 'party LeaderPersonIds 1', 'candidate FileDate 1', 'contest NumberRunoff 1']);
 equal('a card: contests that no ballot has', TOLD.contests, ['the second contest']);
 equal('a card: the election of each style', [...TOLD.elections.values()], [0]);
-const TABLE = { ElectionReport: { GpUnit: 'A', Party: 'B', Person: 'C', Office: 'D', Header: 'E', Election: 'F' },
-    Election: { Candidate: 'G', Contest: 'H', BallotStyle: 'I' }, Person: { FullName: 'J' } };
-equal('seen: the word of an object is that of its list', ['unit', 'party', 'person', 'office', 'header', 'election', 'candidate', 'contest', 'style']
-    .map((part) => wordOf(TABLE, { part, how: 'only left' }, 'Person')).join(''), 'ABCDEFGHI');
-equal('seen: the words, that which weighs most first', WORDS, ['seen', 'in doubt', 'unseen']);
-equal('seen: the word of a member', ['FullName', 'Odd', 'ElectionId'].map((member) => wordOf(TABLE, { part: 'person', how: 'member', member }, 'Person')),
-    ['J', 'in doubt', 'seen']);
 
 // ---- XML, by a reader of simple XML
 

@@ -11,7 +11,7 @@ const FIXES = { alike: {}, 'not JSON': { meaning: [], fixing: [], origin: [] } }
 const accepted = (sum, more) => ({ sha256: sum, canonical: { sha256: FORM, size: 9 }, types: ['fips', 'local-level'], isTest: false, repeated: [], envelope: {},
     elections: [{ name: 'General', start: '2026-11-03', end: '2026-11-03', type: 'general' }], prepared: null, ...more });
 const CARD = { overview: { counts: { style: 2 }, precincts: { all: 1, none: 0, several: 0 }, unlisted: { count: 0, names: [] },
-    hidden: { maybe: { count: 0 }, unseen: { count: 0 } } }, languages: ['en'] };
+    unprinted: { count: 0 } }, languages: ['en'] };
 const VOTES = { part: 'contest', key: ['local-level', '', 'K'], how: 'member', member: 'VotesAllowed', titles: ['Mayor', 'Mayor'], classes: ['A', 'A'],
     there: [true, true], lacking: [false, false], rows: [{ left: { text: '1' }, right: { text: '2' }, same: false }], number: 0, word: 'seen' };
 const LISTED = { count: 2, listed: 2, first: VOTES, tallies: [], kinds: [{ count: 2 }],

@@ -30,12 +30,11 @@ PRINTED = {'party': ('Name', 'Abbreviation', 'Slogan'), 'header': ('Name',),
            'person': ('FullName', 'FirstName', 'LastName', 'Title', 'Profession', 'PartyId'),
            'candidate': ('BallotName', 'PartyId', 'CampaignSlogan', 'IsIncumbent', 'IsTopTicket', 'PersonId', 'PreElectionStatus'),
            'contest': ('Name', 'VotesAllowed', 'VoteVariation', 'ContestSelection'), 'style': ('GpUnitIds', 'PartyIds', 'OrderedContent')}
-# The class of each part in the small ballot, and the list that its objects are in.
+# Those of which a ballot that differs tells what differs.
+TOLD = ('header', 'person', 'candidate', 'contest', 'style')
+# The class of each part in the small ballot.
 CLASSES = {'report': 'ElectionReport', 'unit': 'ReportingUnit', 'party': 'Party', 'person': 'Person', 'office': 'Office', 'header': 'Header',
            'election': 'Election', 'candidate': 'Candidate', 'contest': 'CandidateContest', 'style': 'BallotStyle'}
-LISTS = {'unit': ('ElectionReport', 'GpUnit'), 'party': ('ElectionReport', 'Party'), 'person': ('ElectionReport', 'Person'),
-         'office': ('ElectionReport', 'Office'), 'header': ('ElectionReport', 'Header'), 'election': ('ElectionReport', 'Election'),
-         'candidate': ('Election', 'Candidate'), 'contest': ('Election', 'Contest'), 'style': ('Election', 'BallotStyle')}
 
 # Of each outcome of one file the tone and the sign. Of a comparison also its heading and its sentence.
 FILE_VERDICTS = {'accepted': ('good', '✓'), 'refused': ('bad', '✗')}
@@ -228,16 +227,16 @@ class Result:
         return [self.session.text('#on-ballots') or 'what differs on the ballots'] if self.differing()[0] > 0 else []
 
     def seen(self):
-        """The box on what a voter sees: whether the ballots differ, what they leave out by the table of the profile, and what no ballot shows."""
+        """The box on what a voter sees: whether the ballots differ, what they leave out, and what no ballot shows."""
         differing, count = self.differing()
         heading = say('seen.differ', differing=differing, all=count) if differing else say('seen.shownSame' if count else 'seen.noBallots')
-        return [heading, *self.left_out(), *self.kinds([entry for entry in self.entries if self.word(entry) == 'unseen'])]
+        return [heading, *self.left_out(), *self.kinds([entry for entry in self.entries if self.is_unseen(entry)])]
 
     def left_out(self):
         """What a voter may see, and the ballots that differ don't tell."""
         differ = self.differing()[0] > 0
-        return self.kinds([entry for entry in self.entries if self.word(entry) != 'unseen' and not (
-            differ and self.word(entry) == 'seen' and entry['part'] != 'election')])
+        return self.kinds([entry for entry in self.entries if not self.is_unseen(entry) and not (
+            differ and entry['part'] in TOLD and (entry['how'] != 'member' or self.is_printed(entry)))])
 
     def kinds(self, entries):
         """The line of each kind of differences."""
@@ -262,11 +261,11 @@ class Result:
         return say('seen.leftOut.member', parts=parts, member=member_words(member), count=count) if is_member else \
             say('seen.leftOut.object', parts=parts, count=count)
 
-    def word(self, entry):
-        if entry['how'] != 'member':
-            holder, name = LISTS[entry['part']]
-            return SEEN[holder][name]
-        return SEEN[entry.get('class', CLASSES[entry['part']])].get(entry['member'], 'in doubt')
+    @staticmethod
+    def is_unseen(entry):
+        """Whether no ballot shows the member that differs. Of a ballot style and of the report that is never said."""
+        return (entry['how'] == 'member' and entry['part'] not in ('style', 'report')
+                and SEEN[entry.get('class', CLASSES[entry['part']])].get(entry['member']) == 'unseen')
 
     # ---- what is wrong with a file
 
@@ -402,7 +401,7 @@ class Result:
         entries = [line for it in refused for line in it.lines.decode('utf-8').splitlines()]
         if self.is_listed:
             headings = [say('difference.all', count=len(self.entries))]
-            ordered = sorted(self.entries, key=lambda entry: ('seen', 'in doubt', 'unseen').index(self.word(entry))) if self.has_names else self.entries
+            ordered = sorted(self.entries, key=self.is_unseen) if self.has_names else self.entries
             entries = [self.sentence_on(entry) + ''.join(self.filed_inside(entry) or values_filed(entry.get('values', ()))) for entry in ordered]
         is_told = self.is_listed and self.has_names
         left_out = [say('seen.leftOut')] if is_told and self.left_out() else []

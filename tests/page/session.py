@@ -9,7 +9,7 @@ from browsers import DriverError
 
 ROOT = pathlib.Path(__file__).resolve().parents[2]
 # Once this module is imported, the parts find what other folders have.
-sys.path[1:1] = [str(ROOT / folder) for folder in ('bindings/python/src', 'bindings/python/tests', 'tests/reports', 'web')]
+sys.path[1:1] = [str(ROOT / folder) for folder in ('bindings/python/src', 'bindings/python/tests', 'tests/reports', 'tests/shared', 'web')]
 EXAMPLES = ROOT / 'examples'
 SUITE = ROOT / 'out' / 'conformance'
 # What most tests open: a small report, and the reports of one county by two vendors.

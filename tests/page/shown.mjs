@@ -76,7 +76,8 @@ const NOTICES = {
 
 // ---- what a voter sees
 
-const LEFT_OUT = [{ part: 'office', how: 'member', member: 'Name', count: 2 }, { part: 'person', how: 'only left', member: null, count: 1 }];
+const LEFT_OUT = [{ part: 'office', how: 'member', member: 'Name', count: 2 }, { part: 'person', how: 'only left', member: null, count: 1 },
+    { part: 'party', how: 'other class', member: null, count: 1 }];
 const NO_BALLOT = [{ part: 'unit', how: 'member', member: 'IsDistricted', count: 3 }];
 const seen = (differing, all, leftOut, count, listed, unseen = 0) => {
     const shown = seenBox({ count, listed, seen: { ballots: { differing, all }, leftOut, unseen, noBallot: NO_BALLOT } });
@@ -119,7 +120,7 @@ const DIFFERENCES = {
     'a ballot whose lines are the same': { ...INSIDE, part: 'style', member: 'OrderedContent', inside: { part: 'style', count: 0, entries: [] } },
 };
 const ENTRIES = Object.values(DIFFERENCES).slice(0, 4);
-const numbered = (number) => ({ ...ENTRIES[number], number, word: 'seen' });
+const numbered = (number) => ({ ...ENTRIES[number], number, print: 'words' });
 const TALLIES = [{ part: 'contest', differ: 1, members: 3, 'only left': 0, 'only right': 0 },
     { part: 'candidate', differ: 0, members: 0, 'only left': 1, 'only right': 2 }];
 const LISTED = { count: 4, listed: 4, tallies: TALLIES, seen: {}, kinds: [{ count: 3 }, { count: 1 }] };
@@ -220,9 +221,9 @@ const STEP = { name: 'nulls', done: true, count: 0, made: [], leftCount: 0, left
 const PLACE = { trail: [], pointer: '/a' };
 const OVERVIEW = { counts: { style: 2, contest: 1, candidate: 0, party: 3, office: 0, person: 0, header: 0, unit: 7 },
     precincts: { all: 4, none: 1, several: 2 }, unlisted: { count: 3, names: [] },
-    hidden: { maybe: { count: 1, kinds: [] }, unseen: { count: 2, kinds: [] } } };
+    unprinted: { count: 2, kinds: [] } };
 const FINE = { ...OVERVIEW, precincts: { all: 4, none: 0, several: 0 }, unlisted: { count: 0, names: [] },
-    hidden: { maybe: { count: 0 }, unseen: { count: 0 } } };
+    unprinted: { count: 0 } };
 const card = (overview, languages, sums) => cardOf({ client: answering({ overview: () => overview, languages: () => languages }), tell() {},
     isLarge: false, sums });
 const GENERAL = { name: 'General', start: '2026-11-03', end: '2026-11-04', type: 'general' };

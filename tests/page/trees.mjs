@@ -44,7 +44,7 @@ const ANSWERS = ['ballot_answers.mjs', 'ballot_findings.mjs', 'difference_groups
 const READERS = [...Object.keys(READ_TREES), ...ASK_THE_CORE, ...READ_BYTES];
 equal('what the answers need reads no file', neededBy(...ANSWERS).filter((name) => READERS.includes(name)), []);
 ANSWERS.forEach((name) => equal(`who makes the answers of ${name}`,
-    importing(name).filter((one) => !ANSWERS.includes(one) && !['inside.mjs'].includes(one)), ['judging.mjs']));
+    importing(name).filter((one) => !ANSWERS.includes(one) && !['inside.mjs', 'printed.mjs'].includes(one)), ['judging.mjs']));
 // The page itself shows answers of the worker, and reads no report.
 equal('what the page needs reads no report', neededBy('page.mjs').filter((name) => [...Object.keys(READ_TREES), ...ASK_THE_CORE].includes(name)), []);
 
@@ -55,7 +55,7 @@ equal('with what the answers on ballots are made', madeWith('BallotAnswers'),
     ['this.words(tell), this.differingBallots(), (...question) => this.toldOfBallots(...question)']);
 equal('with what the sentences on ballots are made', madeWith('BallotFindings'), ['this.ballots(tell)']);
 equal('with what the list of differences is made', madeWith('Differences'),
-    ['differences, allDifferences, (key) => this.belowOf(key), words && words.map(({ called }) => called), this.seen']);
+    ['differences, allDifferences, (key) => this.belowOf(key), words && words.map(({ called }) => called)']);
 equal('where the words come from', [judging.match(/this\.keptWords \?\?= .*;/g), modules.get('side.mjs').match(/(?<=return )wordsOf\(.*\);/g)],
     [['this.keptWords ??= this.sides.map((side) => side.words(this.erd, this.prefer, tell));'], ['wordsOf(erd, this.bytes, prefer);']]);
 equal('what is told of one file beside that', [importing('unprinted.mjs'), [...judging.matchAll(/this\.unprinted\(/g)].length, madeWith('Overview')],

@@ -66,8 +66,7 @@ def ticket(session):
 
     session.judged(*(written(session, f'{top}.json', made_with(top)) for top in (0, 1)))
     session.equal('voter: the top of a ticket', session.text('.seen h3'), answers.say('seen.differ', differing=1, all=2))
-    session.equal('voter: the top of a ticket, what is in doubt', session.texts('.seen .left-out li'), [
-        'Candidates: mark of the top of a ticket (IsTopTicket), 2 times'])
+    session.equal('voter: the top of a ticket, which the ballots tell', session.texts('.seen .left-out li'), [])
 
 
 MANY = 21_000

@@ -14,9 +14,9 @@ import sys
 
 from repository import ROOT
 import documented
-import seen
 from cases import tell_cases
 from member_table import table_of_page
+from voters_table import words_of_voters
 
 SPECS = ROOT / 'crates' / 'erd_tables' / 'specs'
 
@@ -87,7 +87,7 @@ def envelope_of_page():
 
 def compare_seen():
     """Each member of the member table has one word, and that of what is not compared if it is not part of the meaning."""
-    words, page, envelope = seen.read(ROOT / 'docs' / 'PROFILE.md'), table_of_page(), envelope_of_page()
+    words, page, envelope = words_of_voters(), table_of_page(), envelope_of_page()
     yield 'the classes of what a voter sees', sorted(page), sorted(words)
     for name, (needed, optional) in page.items():
         members = {**needed, **optional}

@@ -8,10 +8,10 @@ import sys
 
 from repository import ROOT
 import options
-import seen
 from cases import tell_cases
 from facts_and_links import text_of_reasons
 from member_table import families_of_page, table_of_page
+from voters_table import words_of_voters
 
 MOST_WORDS = 110
 # Where `rt fmt` breaks a line.
@@ -173,9 +173,9 @@ def printed_members():
 
 def members_on_ballots(classes):
     """The same by the table of what a voter sees. What holds objects is told object by object."""
-    words = seen.read(ROOT / 'docs' / 'PROFILE.md')
+    words = words_of_voters()
     holding = {'ContestSelection', 'Candidate', 'Contest', 'BallotStyle'}
-    return {name: {it for it, word in words[name].items() if word in ('seen', 'in doubt')} - holding for name in classes}
+    return {name: {it for it, word in words[name].items() if word == 'seen'} - holding for name in classes}
 
 
 def cases():

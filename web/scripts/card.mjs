@@ -26,16 +26,14 @@ export async function cardOf(known) {
 }
 
 async function fill(holder, { client, tell, sums }) {
-    const { counts, precincts, unlisted, hidden } = await client.ask('overview', {}, tell);
+    const { counts, precincts, unlisted, unprinted } = await client.ask('overview', {}, tell);
     const languages = await client.ask('languages', {}, tell);
     holder.append(element('dl', {}, ...sums.elections.map(electionRow), described('card.kind', say(sums.isTest ? 'card.test' : 'card.real')),
         partRow(sums.envelope), described('card.counts', countsText(counts, precincts.all)),
         described('card.languages', languages.length === 0 ? say('record.none') : theirs(languages.map(languageText).sort(orderForReader).join(', ')))),
         ...troubles(client, precincts, unlisted),
         precincts.all === 0 ? '' : folded({ class: 'folded' }, say('card.precincts', { count: precincts.all }), () => table(client, 'all', precincts.all)),
-        ...['maybe', 'unseen'].filter((name) => hidden[name].count > 0)
-            .map((name) => folded({ class: `folded hidden-${name}` }, say(`card.hidden.${name}`, { count: hidden[name].count }),
-                () => hiddenList(hidden[name]))));
+        unprinted.count === 0 ? '' : folded({ class: 'folded unprinted' }, say('card.unprinted', { count: unprinted.count }), () => unprintedList(unprinted)));
 }
 
 function electionRow({ name, start, end, type }) {
@@ -68,7 +66,7 @@ async function contestList({ names, count }) {
         count === names.length ? null : element('li', {}, say('record.more', { count: count - names.length })))];
 }
 
-async function hiddenList({ kinds, count }) {
+async function unprintedList({ kinds, count }) {
     return [element('ul', {}, ...kinds.map((kind) => element('li', {}, leftOutSentence(kind))),
         count === kinds.length ? null : element('li', {}, say('record.more', { count: count - kinds.length })))];
 }

@@ -1,11 +1,7 @@
 // The proved list of differences for a reader: by kinds, with what is known of all of them together, and each as the page shows it.
-import { compactText } from '../../bindings/js/lib/exact.mjs';
 import { insideOf } from './inside.mjs';
+import { isOnBallots, printOf } from './printed.mjs';
 import { rowsOfDifference } from './rows.mjs';
-import { wordOf, WORDS } from './seen.mjs';
-
-// An identifier that carries nothing.
-const PLAIN = '{"@type":"ElectionResults.ExternalIdentifier"}';
 
 // The names of objects where they are not known.
 const UNNAMED = [() => undefined, () => undefined];
@@ -17,26 +13,20 @@ export class Differences {
      * @param {(key: string[]) => string | null} [belowOf] the lines of the proved code that say what differs on the ballot of a style; null
      *     where they are not known
      * @param {import('./values.mjs').Called[] | null} called null where the files are too large for the names of objects to be known
-     * @param {Record<string, Record<string, string>>} [seen] what a voter sees
      */
-    constructor(entries, all, belowOf = () => null, called = null, seen = {}) {
+    constructor(entries, all, belowOf = () => null, called = null) {
         this.all = all;
         this.belowOf = belowOf;
         this.called = called ?? UNNAMED;
         this.hasWords = called !== null;
-        this.entries = entries.map((entry, number) => ({ ...entry, number, ...(this.hasWords ? { word: this.wordOf(seen, entry) } : {}) }));
+        this.entries = entries.map((entry, number) => ({ ...entry, number, ...(this.hasWords ? { print: printOf(entry, this.thingsOf(entry)) } : {}) }));
         this.kinds = kindsOf(this.entries);
-        // For a record, which has some: those that weigh most for a voter come first.
-        this.filed = this.hasWords ? WORDS.flatMap((word) => this.entries.filter((entry) => entry.word === word)) : this.entries;
+        // For a record, which has some: those that a voter sees, or may see, come first.
+        this.filed = [...this.entries.filter(isVisible), ...this.entries.filter((entry) => !isVisible(entry))];
     }
 
-    // What is carried inside identifiers is in doubt, as all that is carried.
-    wordOf(seen, entry) {
-        if (entry.member === 'ExternalIdentifier' && carriedIn(entry.values.left) !== carriedIn(entry.values.right)) {
-            return 'in doubt';
-        }
-        const [one] = this.called.map((ofSide) => ofSide(entry.part, entry.key)).filter((found) => found !== undefined);
-        return wordOf(seen, entry, one?.className);
+    thingsOf({ part, key }) {
+        return this.called.map((ofSide) => ofSide(part, key)).filter((found) => found !== undefined);
     }
 
     /**
@@ -49,10 +39,20 @@ export class Differences {
             count: this.all,
             listed: this.entries.length,
             first: this.shown(this.entries[0]),
-            seen: !this.hasWords || ballots === null ? null : { ballots, ...notOnBallots(this.entries, ballots.differing) },
+            seen: !this.hasWords || ballots === null ? null : { ballots, ...this.notOnBallots(ballots.differing) },
             tallies: talliesOf(this.entries),
             kinds: counted(this.kinds),
         };
+    }
+
+    // What a voter may see and the ballots don't tell, and what no ballot prints, by kinds with their counts. Where no ballot differs, that is
+    // all of the differences.
+    notOnBallots(differing) {
+        const isTold = (entry) => differing > 0 && isOnBallots(entry, entry.part === 'style' ? this.belowOf(entry.key) : null);
+        const mostFirst = (some) => counted(kindsOf(some)).sort((one, other) => other.count - one.count);
+        const unseen = this.entries.filter((entry) => !isVisible(entry));
+        const leftOut = this.entries.filter((entry) => isVisible(entry) && !isTold(entry));
+        return { leftOut: mostFirst(leftOut), noBallot: mostFirst(unseen), unseen: unseen.length };
     }
 
     /** Some of all differences, of those of one kind, or of those of a record. */
@@ -68,27 +68,12 @@ export class Differences {
     }
 }
 
-/**
- * What a voter may see and the ballots of the proved code don't tell, and what no ballot shows, by kinds with their counts. Where no ballot
- * differs a voter may see all else, and otherwise what is in doubt and what differs in an election.
- * @param {{part: string, how: string, member?: string, word: string}[]} entries
- * @param {number} differing how many ballots differ
- */
-export function notOnBallots(entries, differing) {
-    const mostFirst = (some) => counted(kindsOf(some)).sort((one, other) => other.count - one.count);
-    const unseen = entries.filter(({ word }) => word === 'unseen');
-    const leftOut = entries.filter(({ part, word }) => word !== 'unseen' && (differing === 0 || word === 'in doubt' || part === 'election'));
-    return { leftOut: mostFirst(leftOut), noBallot: mostFirst(unseen), unseen: unseen.length };
+function isVisible({ print }) {
+    return print !== 'none';
 }
 
 function counted(kinds) {
     return kinds.map(({ entries, ...kind }) => ({ ...kind, count: entries.length }));
-}
-
-// One text for what identifiers carry.
-function carriedIn(identifiers = []) {
-    return identifiers.map(({ Type: _type, OtherType: _other, Value: _value, ...others }) => compactText(others)).filter((text) => text !== PLAIN)
-        .sort().join('\n');
 }
 
 /**

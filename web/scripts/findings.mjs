@@ -21,7 +21,7 @@ export function differencesFiled(entries, { count, listed }, names) {
     const items = entries.map((entry) => element('li', { value: String(entry.number + 1) }, sentence(entry, names),
         ...linesOf(entry, names).map((line) => element('div', {}, line))));
     return element('div', { 'data-filed': 'differences' }, element('h4', {}, say('difference.all', { count })),
-        entries[0].word === undefined || count === 1 ? null : element('p', {}, listed === count ? say('record.order') : say('record.orderPart', { listed })),
+        entries[0].print === undefined || count === 1 ? null : element('p', {}, listed === count ? say('record.order') : say('record.orderPart', { listed })),
         element('ol', {}, ...items), leftOut(count - items.length));
 }
 

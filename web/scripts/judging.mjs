@@ -56,13 +56,11 @@ export class Judgement {
      * @param {import('../../bindings/js/lib/calls.mjs').Erd} erd
      * @param {Blob[]} files
      * @param {string | null} prefer
-     * @param {Record<string, Record<string, string>>} seen what a voter sees: the table of docs/PROFILE.md
      * @param {(object | null)[]} [converted] of each file what is known of its conversion from XML
      */
-    constructor(erd, files, prefer, seen, converted = []) {
+    constructor(erd, files, prefer, converted = []) {
         this.erd = erd;
         this.prefer = prefer;
-        this.seen = seen;
         this.sides = files.map((file, index) => new Side(file, index, converted[index] ?? null));
     }
 
@@ -176,7 +174,7 @@ export class Judgement {
         const forms = this.sides.map((side) => side.canonical(this.erd, this.prefer, tell));
         const isNamed = !forms.includes(null) && forms[0].length + forms[1].length <= MOST_WITH_NAMES;
         const words = isNamed ? unlessNoMemory(() => this.words(tell)) : null;
-        return new Differences(differences, allDifferences, (key) => this.belowOf(key), words && words.map(({ called }) => called), this.seen);
+        return new Differences(differences, allDifferences, (key) => this.belowOf(key), words && words.map(({ called }) => called));
     }
 
     // The proved list with its values, or its beginning; null if there is no memory for it.
@@ -283,7 +281,7 @@ export class Judgement {
 
     // What the ballots of the only file leave out.
     unprinted(tell) {
-        return unprintedIn(readExactly(this.canonical({ index: 0 }, tell)), this.words(tell)[0], this.seen);
+        return unprintedIn(readExactly(this.canonical({ index: 0 }, tell)), this.words(tell)[0]);
     }
 
     /** How many things differ on the ballots. */

@@ -1,5 +1,5 @@
 // What a file has: how many objects of each kind, and which ballot styles each precinct has. The objects and the ballot styles come from the
-// proved code; what ballots leave out is the page's own reading of the canonical form.
+// proved code; what ballots leave out is read of its canonical form and its words.
 import { textOfKey } from '../../bindings/js/lib/order.mjs';
 import { orderForReader } from './texts.mjs';
 import { textOfTriple } from './values.mjs';
@@ -25,12 +25,12 @@ export class Overview {
         this.groups = { all: this.rows, none: this.rows.filter(({ count }) => count === 0), several: this.rows.filter(({ several }) => several) };
     }
 
-    /** The counts of objects and of precincts, the contests that no ballot has, and the members that no ballot shows. */
+    /** The counts of objects and of precincts, the contests that no ballot has, and the members that no ballot prints. */
     told() {
         const counts = { style: this.heads.length, ...Object.fromEntries(PARTS.map((part) => [part, this.words.of(part).size])) };
         const precincts = Object.fromEntries(Object.entries(this.groups).map(([name, rows]) => [name, rows.length]));
-        const hidden = Object.entries(this.members).map(([name, kinds]) => [name, { count: kinds.length, kinds: kinds.slice(0, MOST_NAMED) }]);
-        return { counts, precincts, unlisted: { count: this.unlisted.length, names: this.unlisted.slice(0, MOST_NAMED) }, hidden: Object.fromEntries(hidden) };
+        return { counts, precincts, unlisted: { count: this.unlisted.length, names: this.unlisted.slice(0, MOST_NAMED) },
+            unprinted: { count: this.members.length, kinds: this.members.slice(0, MOST_NAMED) } };
     }
 
     /** Some precincts of a group, each with the codes of its ballot styles. */

@@ -30,7 +30,7 @@ class Page {
     // What a worker needs first.
     start() {
         const { lang } = document.documentElement;
-        return { wasm: this.data.wasm, texts: this.data.texts[lang], language: lang, seen: this.data.seen };
+        return { wasm: this.data.wasm, texts: this.data.texts[lang], language: lang };
     }
 
     /** Puts the page into another language, and judges anew what is shown. */

@@ -6,9 +6,9 @@ import { titleOf } from './trail.mjs';
 import { listsIn } from './types.mjs';
 
 /**
- * An object: its class, its words, and what it is called, which is null if it has no name. A contest has the words of its selections,
- * by the texts of their names.
- * @typedef {{key: string[] | null, className: string, words: object, title: string | null, selections?: Map<string, object>}} Thing
+ * An object: its words, and what it is called, which is null if it has no name. A contest has the words of its selections, by the texts of
+ * their names.
+ * @typedef {{key: string[] | null, words: object, title: string | null, selections?: Map<string, object>}} Thing
  */
 
 // The most bytes of a list that are kept: it can be far longer than its report.
@@ -28,10 +28,10 @@ export class ReportWords {
     constructor(entries) {
         this.entries = entries;
         this.parts = {};
-        for (const { part, key, class: className, words, selections } of entries) {
+        for (const { part, key, words, selections } of entries) {
             this.parts[part] ??= new Map();
             this.parts[part].set(textOfKey(key), {
-                key, words, title: titleOf(words), className: className.replace('ElectionResults.', ''),
+                key, words, title: titleOf(words),
                 ...(part === 'contest' ? { selections: new Map(selections.map(({ name, words: own }) => [compactText(name), own])) } : {}),
             });
         }
@@ -56,7 +56,7 @@ export class ReportWords {
         return this.keptLanguages;
     }
 
-    /** What objects are called, and their classes. */
+    /** What objects are called, and their words. */
     get called() {
         return (part, key) => this.thing(part, key);
     }

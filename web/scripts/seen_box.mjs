@@ -1,5 +1,5 @@
-// Whether a voter sees any difference, in a box of its own: whether ballots differ comes from the proved code, and what they leave out from
-// a table of the profile.
+// Whether a voter sees any difference, in a box of its own: whether ballots differ comes from the proved code, and so do the words by which it is
+// known what no ballot prints.
 import { memberWords } from './comparison.mjs';
 import { documentButton } from './documents.mjs';
 import { element, saidWith } from './dom.mjs';
@@ -42,5 +42,6 @@ export function partShown({ count, listed }) {
 /** What the ballots leave out of objects, and how often. */
 export function leftOutSentence({ part, how, member, count }) {
     const values = { parts: say(`parts.${part}`), count };
-    return how === 'member' ? saidWith('seen.leftOut.member', { member: memberWords(member) }, values) : say('seen.leftOut.object', values);
+    return how === 'member' ? saidWith('seen.leftOut.member', { member: memberWords(member) }, values)
+        : say(how === 'other class' ? 'seen.leftOut.class' : 'seen.leftOut.object', values);
 }

@@ -1,30 +1,24 @@
-// What the ballots of a file leave out, by the page's own reading of its canonical form: docs/PROFILE.md, "The canonical report".
+// What the ballots of a file leave out, by two answers of the proved code: the canonical form (docs/PROFILE.md, "The canonical report") and the
+// words of objects (docs/API.md, "Words of ballots"), which are all that ballots print of them, or may print.
 import { textOfKey } from '../../bindings/js/lib/order.mjs';
-import { ENVELOPE } from './envelope.mjs';
 
-const PARTS_OF_REPORT = { GpUnit: 'unit', Party: 'party', Person: 'person', Office: 'office', Header: 'header' };
-const PARTS_OF_ELECTION = { Candidate: 'candidate', Contest: 'contest', BallotStyle: 'style' };
-
-// The members of each part that are shown of ballots, or are no members of the object itself. A person is shown as a candidate.
-const SHOWN = {
-    report: ['Election', ...Object.keys(PARTS_OF_REPORT), ...ENVELOPE], election: ['Name', 'StartDate', ...Object.keys(PARTS_OF_ELECTION)],
-    unit: ['Name'], party: ['Name'], office: [], header: ['Name'], candidate: ['BallotName', 'PartyId', 'IsTopTicket', 'IsIncumbent'],
-    contest: ['Name', 'BallotTitle', 'BallotSubTitle', 'VotesAllowed', 'VoteVariation', 'OtherVoteVariation', 'ContestSelection', 'CandidateId',
-        'HasRotation', 'SummaryText', 'FullText', 'ProStatement', 'ConStatement', 'EffectOfAbstain', 'PassageThreshold'],
-    style: ['GpUnitIds', 'PartyIds', 'OrderedContent'],
-};
+// The lists of objects that have words, in a report and in an election.
+const LISTS = { GpUnit: 'unit', Party: 'party', Person: 'person', Office: 'office', Header: 'header', Election: 'election' };
+const LISTS_OF_ELECTION = { Candidate: 'candidate', Contest: 'contest' };
+// What says nothing by itself: the class of an object, its number, and lists of objects, which have words of their own.
+const WORDLESS = new Set(['@type', '@id', ...Object.keys(LISTS_OF_ELECTION), 'BallotStyle', 'ContestSelection']);
 
 /**
  * What the ballots of an accepted report leave out.
  * @param {object} report the canonical form
  * @param {import('./report_words.mjs').ReportWords} words
- * @param {Record<string, Record<string, string>>} seen what a voter sees: the table of docs/PROFILE.md
- * @returns {{elections: Map<string, number>, contests: import('./report_words.mjs').Thing[], members: Record<'maybe' | 'unseen', object[]>}}
- *     the number of the election of each style by the texts of its identifiers, the contests that no ballot has, and the members that none
- *     shows with how many objects have them: those that a voter may see, and the others
+ * @returns {{elections: Map<string, number>, contests: import('./report_words.mjs').Thing[], members: object[]}} the number of the election of
+ *     each style by the texts of its identifiers, the contests that no ballot has, and the members that no ballot prints, with how many objects
+ *     have them
  */
-export function unprintedIn(report, words, seen) {
-    return { elections: electionsOfStyles(report), contests: unlistedIn(report, [...words.of('contest').values()]), members: membersNotShown(report, seen) };
+export function unprintedIn(report, words) {
+    const contests = [...words.of('contest').values()];
+    return { elections: electionsOfStyles(report), contests: unlistedIn(report, contests), members: membersWithoutWords(report, words.entries) };
 }
 
 function electionsOfStyles({ Election }) {
@@ -42,25 +36,29 @@ function contestsOn({ ContestId, OrderedContent = [] }) {
     return [ContestId, ...OrderedContent.flatMap(contestsOn)];
 }
 
-// That a flag is off is no more than that it is not there.
-function membersNotShown(report, seen) {
-    const found = { maybe: new Map(), unseen: new Map() };
-    const candidates = new Set(report.Election.flatMap(({ Candidate = [] }) => Candidate.map(({ PersonId }) => PersonId)));
-    for (const [part, object] of objectsOf(report)) {
-        const words = seen[object['@type'].replace('ElectionResults.', '')] ?? {};
-        const shown = ['@type', '@id', ...SHOWN[part] ?? (candidates.has(object['@id']) ? ['Profession'] : [])];
-        for (const member of Object.keys(object).filter((name) => object[name] !== false && !shown.includes(name))) {
-            const kinds = found[Object.hasOwn(words, member) && words[member] === 'unseen' ? 'unseen' : 'maybe'];
-            const name = JSON.stringify([part, member]);
-            kinds.set(name, { part, how: 'member', member, count: (kinds.get(name)?.count ?? 0) + 1 });
-        }
-    }
-    return Object.fromEntries(Object.entries(found).map(([name, kinds]) => [name, [...kinds.values()].sort((one, other) => other.count - one.count)]));
+// Which members more objects have than have them among their words.
+function membersWithoutWords(report, entries) {
+    const counts = countsOf(objectsOf(report));
+    const printed = countsOf(entries.map(({ part, words }) => [part, words]));
+    const kinds = [...counts].map(([name, count]) => [JSON.parse(name), count - (printed.get(name) ?? 0)]);
+    return kinds.filter(([, count]) => count > 0).map(([[part, member], count]) => ({ part, how: 'member', member, count }))
+        .sort((one, other) => other.count - one.count);
 }
 
-// The objects of a report, each with its part.
+// How many objects of each part have each member. That a flag is off is no more than that it is not there.
+function countsOf(objects) {
+    const counts = new Map();
+    for (const [part, object] of objects) {
+        for (const member of Object.keys(object).filter((name) => object[name] !== false && !WORDLESS.has(name))) {
+            const name = JSON.stringify([part, member]);
+            counts.set(name, (counts.get(name) ?? 0) + 1);
+        }
+    }
+    return counts;
+}
+
+// The objects of a report that have words, each with its part.
 function objectsOf(report) {
-    const objectsIn = (parts, holder) => Object.entries(parts).flatMap(([name, part]) => (holder[name] ?? []).map((object) => [part, object]));
-    return [['report', report], ...objectsIn(PARTS_OF_REPORT, report),
-        ...report.Election.flatMap((election) => [['election', election], ...objectsIn(PARTS_OF_ELECTION, election)])];
+    const objectsIn = (lists, holder) => Object.entries(lists).flatMap(([name, part]) => (holder[name] ?? []).map((object) => [part, object]));
+    return [...objectsIn(LISTS, report), ...report.Election.flatMap((election) => objectsIn(LISTS_OF_ELECTION, election))];
 }

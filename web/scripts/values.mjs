@@ -5,8 +5,8 @@ import { say } from './texts.mjs';
 /**
  * A line of a value. Lines are alike if their objects have equal keys, whatever the objects are called.
  * @typedef {{text: string, like: string}} Line
- * What a report calls an object, by its part and its key, and the class of the object; undefined where that is not known.
- * @typedef {(part: string, key: string[] | null) => {title: string | null, className: string} | undefined} Called
+ * What a report calls an object, by its part and its key, and the words of the object; undefined where that is not known.
+ * @typedef {(part: string, key: string[] | null) => import('./report_words.mjs').Thing | undefined} Called
  */
 
 // What the name of a reference ends with, before Id or Ids, and the part of the objects that it names.

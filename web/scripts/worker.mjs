@@ -18,13 +18,13 @@ const QUESTIONS = [
 ];
 
 const ANSWERS = {
-    async start({ wasm, texts, language, seen }) {
+    async start({ wasm, texts, language }) {
         useTexts(texts, language);
         const module = await WebAssembly.compile(wasm);
-        started = { module, seen, erd: new Erd(module) };
+        started = { module, erd: new Erd(module) };
     },
     open({ files, prefer, converted }) {
-        judgement = new Judgement(new Erd(started.module, MEMORY), files, prefer, started.seen, converted);
+        judgement = new Judgement(new Erd(started.module, MEMORY), files, prefer, converted);
     },
     verdict: (_question, tell) => judged(tell),
     survey: ({ file, prefer, converted }) => surveyed(started.erd, file, prefer, converted),
