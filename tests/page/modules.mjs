@@ -175,7 +175,7 @@ const member = (name, more = {}) => ({ part: 'contest', how: 'member', member: n
 const codes = (...some) => some.map((more) => ({ '@type': 'ElectionResults.ExternalIdentifier', Type: 'fips', Value: '1', ...more }));
 const identifiersThat = (left, right) => member('ExternalIdentifier', { values: { left, right } });
 const sides = [wordly(['Name', '__proto__'], { '["a"]': { IsWriteIn: true } }), wordly(['Name', 'Note'], { '["a"]': {} })];
-const selections = (...some) => member('ContestSelection', { selections: some.map((one) => ({ how: 'member', name: ['a'], ...one })) });
+const insideWith = (...some) => member('ContestSelection', { selections: some.map((one) => ({ how: 'member', name: ['a'], ...one })) });
 const newCode = { member: 'ExternalIdentifier', values: { left: codes({}), right: codes({}, { Value: '2' }) } };
 const PRINTS = {
     'a word in both files': [member('Name'), 'words'], 'a word in the second file': [member('Note'), 'words'],
@@ -185,12 +185,12 @@ const PRINTS = {
     'another code': [identifiersThat(codes({}), codes({ Value: '2' })), 'none'],
     'one code more, of one file alone': [identifiersThat(undefined, codes({ OtherType: 'x' })), 'none'],
     'what a code carries': [identifiersThat(codes({ Label: 'x' }), codes({ Label: 'y' })), 'beside'],
-    'selections that are not told': [member('ContestSelection'), 'beside'], 'a selection of one file': [selections({ how: 'only left' }), 'words'],
-    'a word of a selection, which one file has': [selections({ member: 'IsWriteIn' }), 'words'],
-    'the codes of selections': [selections(newCode, newCode), 'none'],
-    'the codes of a selection that are too long': [selections({ ...newCode, values: null }), 'beside'],
-    'a selection that nothing is known of': [selections({ member: 'Note', name: ['b'] }), 'beside'],
-    'much of selections': [selections(newCode, { member: 'IsWriteIn' }, { ...newCode, values: null }), 'beside'],
+    'selections that are not told': [member('ContestSelection'), 'beside'], 'a selection of one file': [insideWith({ how: 'only left' }), 'words'],
+    'a word of a selection, which one file has': [insideWith({ member: 'IsWriteIn' }), 'words'],
+    'the codes of selections': [insideWith(newCode, newCode), 'none'],
+    'the codes of a selection that are too long': [insideWith({ ...newCode, values: null }), 'beside'],
+    'a selection that nothing is known of': [insideWith({ member: 'Note', name: ['b'] }), 'beside'],
+    'much of selections': [insideWith(newCode, { member: 'IsWriteIn' }, { ...newCode, values: null }), 'beside'],
 };
 Object.entries(PRINTS).forEach(([name, [difference, print]]) => equal(`how ballots print ${name}`, printOf(difference, sides), print));
 equal('how ballots print what has no words', [member('IsTest'), member('ExternalIdentifier', { values: {} })].map((one) => printOf(one, [])), ['beside', 'beside']);

@@ -242,7 +242,7 @@ class Result:
         """The line of each kind of differences."""
         counts = {}
         for entry in entries:
-            kind = (entry['part'], entry['how'] == 'member', entry.get('member'))
+            kind = (entry['part'], entry['how'], entry.get('member'))
             counts[kind] = counts.get(kind, 0) + 1
         return [self.left_out_line(*kind, count) for kind, count in counts.items()]
 
@@ -256,10 +256,10 @@ class Result:
         return entry['part'] in PRINTED and (entry['member'] in PRINTED[entry['part']] or entry['member'] not in SEEN[CLASSES[entry['part']]])
 
     @staticmethod
-    def left_out_line(part, is_member, member, count):
+    def left_out_line(part, how, member, count):
         parts = say(f'parts.{part}')
-        return say('seen.leftOut.member', parts=parts, member=member_words(member), count=count) if is_member else \
-            say('seen.leftOut.object', parts=parts, count=count)
+        return say('seen.leftOut.member', parts=parts, member=member_words(member), count=count) if how == 'member' else \
+            say('seen.leftOut.class' if how == 'other class' else 'seen.leftOut.object', parts=parts, count=count)
 
     @staticmethod
     def is_unseen(entry):

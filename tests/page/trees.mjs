@@ -56,6 +56,8 @@ equal('with what the answers on ballots are made', madeWith('BallotAnswers'),
 equal('with what the sentences on ballots are made', madeWith('BallotFindings'), ['this.ballots(tell)']);
 equal('with what the list of differences is made', madeWith('Differences'),
     ['differences, allDifferences, (key) => this.belowOf(key), words && words.map(({ called }) => called)']);
+equal('what of a difference ballots print', [importing('printed.mjs'), modules.get('difference_groups.mjs').match(/(?<=print: )printOf\(.*?\)\)/g)],
+    [['difference_groups.mjs'], ['printOf(entry, this.thingsOf(entry))']]);
 equal('where the words come from', [judging.match(/this\.keptWords \?\?= .*;/g), modules.get('side.mjs').match(/(?<=return )wordsOf\(.*\);/g)],
     [['this.keptWords ??= this.sides.map((side) => side.words(this.erd, this.prefer, tell));'], ['wordsOf(erd, this.bytes, prefer);']]);
 equal('what is told of one file beside that', [importing('unprinted.mjs'), [...judging.matchAll(/this\.unprinted\(/g)].length, madeWith('Overview')],

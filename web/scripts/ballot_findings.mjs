@@ -9,8 +9,8 @@ import { endOf, shortened } from './visible.mjs';
 // A line that says what differs: docs/GUIDE.md, "What differs on a ballot". Those of selections stand below their contest.
 const LINE = /^ +(changed|removed|added|moved) (parties|units|header|contest|selection) ?(.*)$/s;
 
-// Who gets a ballot.
-const VOTERS = new Set(['parties', 'units']);
+/** Who gets a ballot, and the kinds of objects that they are. */
+export const VOTERS = new Map([['units', 'unit'], ['parties', 'party']]);
 
 // What a thing is about that is of no header or contest.
 const OF_STYLE = { kind: 'style', subject: '' };

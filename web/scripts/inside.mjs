@@ -1,7 +1,7 @@
 // What differs inside the selections of two contests, or on the ballots of two styles, with a name of each thing for a reader. What differs
 // comes from the proved code, and so do the values of selections.
 import { compactText, exactValue } from '../../bindings/js/lib/exact.mjs';
-import { linesIn } from './ballot_findings.mjs';
+import { linesIn, VOTERS } from './ballot_findings.mjs';
 import { rowsOfMember } from './rows.mjs';
 import { say } from './texts.mjs';
 import { nameOf, plainLines, textOfTriple } from './values.mjs';
@@ -13,9 +13,6 @@ const MOST_INSIDE = 100;
  * selections of one contest. */
 const MOST_ROWS = 20;
 const ENOUGH_CHARACTERS = 50_000;
-
-// What is told of whoever gets a ballot, and the kinds of objects that they are.
-const VOTERS = { units: 'unit', parties: 'party' };
 
 /**
  * What the page shows of what differs inside: how many differences there are, and the first of them. Null if the proved list does not
@@ -55,8 +52,8 @@ function entriesOfSelections(called) {
 
 // A line of the proved code on a ballot: how something differs, what it is, and its key or its name as JSON.
 function entryOfLine({ how, kind, key }, called) {
-    if (Object.hasOwn(VOTERS, kind)) {
-        return { how, name: say(`parts.${VOTERS[kind]}`) };
+    if (VOTERS.has(kind)) {
+        return { how, name: say(`parts.${VOTERS.get(kind)}`) };
     }
     const named = exactValue(key);
     return { how, name: kind === 'selection' ? say('value.selection', { name: selectionText(named, called) }) : textOfObject(kind, named, called) };
