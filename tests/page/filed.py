@@ -50,12 +50,12 @@ def rows(session):
 
 
 def order(session):
-    """Of many differences those come first that a voter sees, each with its number in the proved list."""
+    """Of many differences those come first that ballots tell, each with its number in the proved list."""
     left, right = made(count=120), made(title='Measure 3', name='Precinct', count=120)
     for unit in right['GpUnit'][1:]:
         unit['IsDistricted'] = True
     session.judged(written(session, 'left.json', left), written(session, 'right.json', right))
-    session.has('filed: first what a voter sees', session.text('[data-filed] li'), 'Measure 2')
+    session.has('filed: first what ballots tell', session.text('[data-filed] li'), 'Measure 2')
     session.equal('filed: with its number', session.browser.script("return document.querySelector('[data-filed] li').value"), 241)
     session.equal('filed: how many more', session.texts('[data-filed] > p'), [answers.say('record.order'), answers.say('record.more', count=141)])
 

@@ -196,7 +196,7 @@ Object.entries(PRINTS).forEach(([name, [difference, print]]) => equal(`how ballo
 equal('how ballots print what has no words', [member('IsTest'), member('ExternalIdentifier', { values: {} })].map((one) => printOf(one, [])), ['beside', 'beside']);
 
 // Which differences the ballots that differ tell: words of what the proved code compares, and of a style what its ballot says.
-const told = (part, print = 'words', more = {}, below = '') => isOnBallots({ part, how: 'member', member: 'Name', print, ...more }, below);
+const told = (part, print = 'words', more = {}, below = '') => isOnBallots({ part, how: 'member', member: 'Name', print, ...more }, () => below);
 equal('the words that ballots compare', ['header', 'contest', 'candidate', 'person'].map((part) => told(part)), [true, true, true, true]);
 equal('the words that ballots compare in part, or not at all', ['unit', 'party', 'office', 'election', 'report'].map((part) => told(part)),
     [false, false, false, false, false]);

@@ -354,8 +354,8 @@ const differences = new Differences(list, 9, () => null, both);
 const printsOf = (entries) => entries.map(({ number, print }) => [number, print]);
 equal('how ballots print differences', printsOf(differences.some({ from: 0, count: 9 })),
     [[0, 'none'], [1, 'beside'], [2, 'words'], [3, 'none'], [4, 'beside']]);
-equal('what a voter may see is filed first', printsOf(differences.some({ isFiled: true, from: 0, count: 9 })),
-    [[1, 'beside'], [2, 'words'], [4, 'beside'], [0, 'none'], [3, 'none']]);
+equal('what ballots tell is filed first, and what no ballot prints last', printsOf(differences.some({ isFiled: true, from: 0, count: 9 })),
+    [[2, 'words'], [1, 'beside'], [4, 'beside'], [0, 'none'], [3, 'none']]);
 equal('some of one kind', printsOf(differences.some({ kind: 0, from: 1, count: 1 })), [[1, 'beside']]);
 const told = differences.told({ all: 2, differing: 1 });
 equal('what is told of the list', [told.count, told.listed, told.first.number, told.seen.unseen, told.kinds.map(({ member: name, count }) => [name, count])],

@@ -236,7 +236,7 @@ class Result:
         """What a voter may see, and the ballots that differ don't tell."""
         differ = self.differing()[0] > 0
         return self.kinds([entry for entry in self.entries if not self.is_unseen(entry) and not (
-            differ and entry['part'] in TOLD and (entry['how'] != 'member' or self.is_printed(entry)))])
+            differ and self.is_told(entry))])
 
     def kinds(self, entries):
         """The line of each kind of differences."""
@@ -254,6 +254,10 @@ class Result:
     def is_printed(entry):
         """Whether a difference in this member makes the ballots differ."""
         return entry['part'] in PRINTED and (entry['member'] in PRINTED[entry['part']] or entry['member'] not in SEEN[CLASSES[entry['part']]])
+
+    def is_told(self, entry):
+        """Whether a ballot that differs tells the difference."""
+        return entry['part'] in TOLD and (entry['how'] != 'member' or self.is_printed(entry))
 
     @staticmethod
     def left_out_line(part, how, member, count):
@@ -401,7 +405,7 @@ class Result:
         entries = [line for it in refused for line in it.lines.decode('utf-8').splitlines()]
         if self.is_listed:
             headings = [say('difference.all', count=len(self.entries))]
-            ordered = sorted(self.entries, key=self.is_unseen) if self.has_names else self.entries
+            ordered = sorted(self.entries, key=lambda entry: (self.is_unseen(entry), not self.is_told(entry))) if self.has_names else self.entries
             entries = [self.sentence_on(entry) + ''.join(self.filed_inside(entry) or values_filed(entry.get('values', ()))) for entry in ordered]
         is_told = self.is_listed and self.has_names
         left_out = [say('seen.leftOut')] if is_told and self.left_out() else []

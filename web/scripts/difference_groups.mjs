@@ -21,8 +21,6 @@ export class Differences {
         this.hasWords = called !== null;
         this.entries = entries.map((entry, number) => ({ ...entry, number, ...(this.hasWords ? { print: printOf(entry, this.thingsOf(entry)) } : {}) }));
         this.kinds = kindsOf(this.entries);
-        // For a record, which has some: those that a voter sees, or may see, come first.
-        this.filed = [...this.entries.filter(isVisible), ...this.entries.filter((entry) => !isVisible(entry))];
     }
 
     thingsOf({ part, key }) {
@@ -48,11 +46,19 @@ export class Differences {
     // What a voter may see and the ballots don't tell, and what no ballot prints, by kinds with their counts. Where no ballot differs, that is
     // all of the differences.
     notOnBallots(differing) {
-        const isTold = (entry) => differing > 0 && isOnBallots(entry, entry.part === 'style' ? this.belowOf(entry.key) : null);
+        const isTold = (entry) => differing > 0 && isOnBallots(entry, this.belowOf);
         const mostFirst = (some) => counted(kindsOf(some)).sort((one, other) => other.count - one.count);
         const unseen = this.entries.filter((entry) => !isVisible(entry));
         const leftOut = this.entries.filter((entry) => isVisible(entry) && !isTold(entry));
         return { leftOut: mostFirst(leftOut), noBallot: mostFirst(unseen), unseen: unseen.length };
+    }
+
+    // For a record, which has some: those that ballots tell come first, and then those that a voter may see beside them.
+    get filed() {
+        const rankOf = (entry) => (!isVisible(entry) ? 2 : isOnBallots(entry, this.belowOf) ? 0 : 1);
+        this.keptFiled ??= !this.hasWords ? this.entries : this.entries.map((entry) => ({ entry, rank: rankOf(entry) }))
+            .sort((one, other) => one.rank - other.rank).map(({ entry }) => entry);
+        return this.keptFiled;
     }
 
     /** Some of all differences, of those of one kind, or of those of a record. */

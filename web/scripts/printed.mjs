@@ -61,12 +61,12 @@ function carriedIn(identifiers = []) {
 
 /**
  * Whether the ballots that differ tell a difference, if a ballot has it.
- * @param {{part: string, how: string, member?: string, print: Print}} difference
- * @param {string | null} below what the proved code says of the ballots of a style; null where it is not known
+ * @param {{part: string, key: string[] | null, how: string, member?: string, print: Print}} difference
+ * @param {(key: string[]) => string | null} belowOf what the proved code says of the ballots of a style; null where it is not known
  */
-export function isOnBallots({ part, how, member, print }, below) {
+export function isOnBallots({ part, key, how, member, print }, belowOf) {
     if (part === 'style') {
-        return how !== 'member' || linesIn(below ?? '').some(({ kind }) => LINES.get(member)?.includes(kind));
+        return how !== 'member' || linesIn(belowOf(key) ?? '').some(({ kind }) => LINES.get(member)?.includes(kind));
     }
     return print === 'words' && COMPARED.has(part);
 }
