@@ -26,7 +26,7 @@ const others = (node) => ({
     entries: every(':scope > .differences > li', node, (entry) => [text(entry.querySelector('summary') ?? entry), ...inside(entry), ...table(entry)]),
 });
 const first = (node) => [text(node.querySelector('.sentence')), ...inside(node), ...table(node)];
-const seen = (node) => [text(node.querySelector('h3')), ...texts('li', node)];
+const seen = (node) => [text(node.querySelector('h3')), texts('.left-out li', node), texts('.no-ballot li', node)];
 const line = (node) => {
     const sum = node.querySelector('.sum');
     return [text(node.querySelector('dt')), ...(sum === null ? [text(node.querySelector('dd'))] : [text(sum), ...texts('.spoken code', node)])];

@@ -230,7 +230,7 @@ class Result:
         """The box on what a voter sees: whether the ballots differ, what they leave out, and what no ballot shows."""
         differing, count = self.differing()
         heading = say('seen.differ', differing=differing, all=count) if differing else say('seen.shownSame' if count else 'seen.noBallots')
-        return [heading, *self.left_out(), *self.kinds([entry for entry in self.entries if self.is_unseen(entry)])]
+        return [heading, self.left_out(), self.kinds([entry for entry in self.entries if self.is_unseen(entry)])]
 
     def left_out(self):
         """What a voter may see, and the ballots that differ don't tell."""
