@@ -218,8 +218,9 @@ equal('differences: without names, or without ballots, nothing is said of a vote
 const fileOf = (text, place, name) => otherFile(new TextEncoder().encode(text),
     [{ place, reason: name === undefined ? 3 : 2, ...(name === undefined ? {} : { name }) }]);
 equal('other files: by their class', [fileOf('{"@type":"CVR.CastVoteRecordReport"}', ['@type']),
-    fileOf('{"@type":"BallotDefinition.ElectionReport"}', ['@type']), fileOf('{"@type":"X"}', ['@type']), fileOf('{"a":1}', [], '@type')],
-['castVotes', 'ballotDefinition', 'noReport', 'noReport']);
+    fileOf('{"@type":"BallotDefinition.ElectionReport"}', ['@type']), fileOf('{"@type":"X"}', ['@type']), fileOf('{"a":1}', [], '@type'),
+    fileOf('{"@type":["CVR.X"]}', ['@type'])],
+['castVotes', 'ballotDefinition', 'noReport', 'noReport', 'noReport']);
 equal('other files: what may be a report', [fileOf('{"Election":[]}', [], '@type'), fileOf('{"@type":7,"GpUnit":[]}', ['@type']), fileOf('{}', ['Election']),
     fileOf('{}', [], 'Status')], [null, null, null, null]);
 const ASKED = 'begun sums list more betterType ownTypes ownView overview precincts onBallots someOnBallots languages styles ballot kinds places canonical '

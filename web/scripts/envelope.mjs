@@ -18,21 +18,17 @@ const ELECTION_MEMBERS = ['Name', 'StartDate', 'EndDate', 'Type'];
  */
 export function headIn(bytes) {
     const places = Array.from({ length: MOST_ELECTIONS }, (_, at) => ELECTION_MEMBERS.map((name) => ['Election', at, name])).flat();
-    const found = foundPlaces(bytes, [...ENVELOPE.map((name) => [name]), ['IsTest'], ...places]).map((one) => one?.way.at(-1));
+    const found = foundPlaces(bytes, [...ENVELOPE.map((name) => [name]), ['IsTest'], ...places]);
     const [test, ...others] = found.splice(ENVELOPE.length);
-    const there = ENVELOPE.map((name, index) => [name, found[index]]).filter(([, one]) => one !== undefined);
-    return { envelope: Object.fromEntries(there.map(([name, one]) => [name, valueText(bytes, one)])), isTest: test !== undefined && valueOf(bytes, test),
-        elections: electionsOf(others.map((one) => (one === undefined ? undefined : valueOf(bytes, one)))) };
+    const there = ENVELOPE.map((name, index) => [name, found[index]]).filter(([, one]) => one !== null);
+    return { envelope: Object.fromEntries(there.map(([name, one]) => [name, valueText(bytes, one.way.at(-1))])), isTest: test?.value ?? false,
+        elections: electionsOf(others.map((one) => one?.value)) };
 }
 
 function electionsOf(values) {
     const count = ELECTION_MEMBERS.length;
     const elections = Array.from({ length: MOST_ELECTIONS }, (_, at) => values.slice(at * count, (at + 1) * count)).filter(([name]) => name !== undefined);
     return elections.map(([name, start, end, type]) => ({ name: textOfLabel(name) ?? '', start, end, type }));
-}
-
-function valueOf(bytes, { start, end }) {
-    return JSON.parse(textOf(bytes, start, end));
 }
 
 // A text as it is, a whole number as it is written, and of each identifier its type and its value.

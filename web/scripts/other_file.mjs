@@ -1,5 +1,4 @@
 // Files of JSON that are no ElectionReport: which other file one is, as far as its first level tells.
-import { textOf } from '../../bindings/js/lib/scanner.mjs';
 import { foundPlaces } from './places.mjs';
 
 // The reasons of a report that lacks its class, or has another one.
@@ -20,12 +19,7 @@ export function otherFile(bytes, faults) {
         return undefined;
     }
     const [type, ...members] = foundPlaces(bytes, [[CLASS], ...MEMBERS.map((name) => [name])]);
-    const name = type === null ? '' : nameAt(bytes, type.way.at(-1));
-    const known = BEGINNINGS.find(([beginning]) => name.startsWith(beginning));
+    const name = type?.value;
+    const known = typeof name === 'string' ? BEGINNINGS.find(([beginning]) => name.startsWith(beginning)) : undefined;
     return known?.[1] ?? (members.every((member) => member === null) ? 'noReport' : undefined);
-}
-
-function nameAt(bytes, { start, end }) {
-    const value = JSON.parse(textOf(bytes, start, end));
-    return typeof value === 'string' ? value : '';
 }

@@ -68,6 +68,12 @@ export class Found {
         this.way = way;
     }
 
+    /** The value. */
+    get value() {
+        const { start, end } = this.way.at(-1);
+        return JSON.parse(textOf(this.bytes, start, end));
+    }
+
     /** Where the value stands, and the name before it if it is a member. */
     get range() {
         const node = this.way.at(-1);

@@ -12,7 +12,6 @@ import { readBorn } from './from_xml/born.mjs';
 import { formOf, whyNot } from './from_xml/form.mjs';
 import { otherFile } from './other_file.mjs';
 import { foundPlaces } from './places.mjs';
-import { textOf } from '../../bindings/js/lib/scanner.mjs';
 import { areBounded, wordsOf } from './report_words.mjs';
 import { typesIn } from './types.mjs';
 
@@ -107,16 +106,11 @@ export class Side {
             outcome,
             ...(converted === null ? {} : { converted }),
             ...(outcome === 'refused' ? { faults: this.checked.allFaults } : {}),
-            ...(outcome === 'refused' && this.checked.faults.some(({ reason }) => reason === NOT_PRE_ELECTION) ? { status: this.status() } : {}),
+            ...(outcome === 'refused' && this.checked.faults.some(({ reason }) => reason === NOT_PRE_ELECTION)
+                ? { status: foundPlaces(this.bytes, [['Status']])[0].value } : {}),
             ...(outcome === 'refused' ? { other: otherFile(this.bytes, this.checked.faults) } : {}),
             ...(outcome === 'notJson' ? { trouble: this.trouble() } : {}),
         };
-    }
-
-    // When the report was made, in the words of the standard.
-    status() {
-        const { start, end } = foundPlaces(this.bytes, [['Status']])[0].way.at(-1);
-        return JSON.parse(textOf(this.bytes, start, end));
     }
 
     get isJson() {
@@ -188,8 +182,7 @@ export class Side {
     // The notes of a refused file, where they are a text.
     notes() {
         const [found] = foundPlaces(this.bytes, [['Notes']]);
-        const { start, end } = found?.way.at(-1) ?? {};
-        return found !== null && this.bytes[start] === 0x22 ? JSON.parse(textOf(this.bytes, start, end)) : undefined;
+        return found !== null && this.bytes[found.way.at(-1).start] === 0x22 ? found.value : undefined;
     }
 
     /** Whether its notes say that it is a prepared copy, the types of its identifiers, the names that are written twice, its envelope and its elections. */
