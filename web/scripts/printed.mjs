@@ -65,8 +65,9 @@ function carriedIn(identifiers = []) {
  * @param {(key: string[]) => string | null} belowOf what the proved code says of the ballots of a style; null where it is not known
  */
 export function isOnBallots({ part, key, how, member, print }, belowOf) {
-    if (part === 'style') {
-        return how !== 'member' || linesIn(belowOf(key) ?? '').some(({ kind }) => LINES.get(member)?.includes(kind));
+    if (part !== 'style' || how !== 'member') {
+        return print === 'words' && (part === 'style' || COMPARED.has(part));
     }
-    return print === 'words' && COMPARED.has(part);
+    const kinds = LINES.get(member);
+    return kinds !== undefined && linesIn(belowOf(key) ?? '').some(({ kind }) => kinds.includes(kind));
 }
