@@ -91,21 +91,6 @@ export const STEP_WORDS = {
         'Prepare the other file in the same way.'],
 };
 
-/** Why a step left something as it is. */
-export const LEFT_WORDS = {
-    counted: 'it has counts that are not zero, so the file may be a report of results',
-    requiredText: 'the standard requires this text: ask for its content',
-    twinIds: 'another object of the same sort has this @id',
-    sharedNumber: 'another object has the same number',
-    namesObject: 'it names an object of the file by its system name',
-    nameTaken: 'the object has a member of the new name already',
-    someGone: 'only some of its candidates are gone',
-    noName: 'it has no name',
-    noCounty: 'it is not in one county',
-    noTown: 'it is not in one town',
-    nothingTells: 'nothing tells it from another one',
-};
-
 /** What to do about a fault that is left, by the number of its reason: the steps that may fix it, and what to ask the vendor for. */
 export const REMEDIES = {
     1: [['nulls', 'kinds'],
