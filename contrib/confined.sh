@@ -120,10 +120,10 @@ else
 fi
 
 # judged: runs erd under its limits. What is written to descriptor 4 is the status of erd itself, which no tool around it can feign,
-# and then that of the tools.
+# and then that of the tools. The shell outlives the signal to end, so that `timeout` kills a program that passes over it.
 judged() {
     confined timeout --kill-after=5 "$seconds" prlimit --as="$memory" --cpu="$seconds" --core=0 \
-        /bin/sh -c '"$@" 4>&-; echo "erd $?" >&4' sh "$erd_there" "$command" ${prefer:+--prefer "$prefer"} -- "$@"
+        /bin/sh -c 'trap : TERM; "$@" 4>&-; echo "erd $?" >&4' sh "$erd_there" "$command" ${prefer:+--prefer "$prefer"} -- "$@"
     echo "tools $?" >&4
 }
 

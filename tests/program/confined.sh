@@ -9,7 +9,8 @@ for tool in prlimit timeout python3; do
 done
 export ERD=$PWD/erd
 mkdir "$work/temporary"
-export TMPDIR=$work/temporary
+export TMPDIR=$work/temporary SECRET=x
+ulimit -S -c "$(ulimit -H -c)"
 one=examples/one-unit.json
 
 # confined NAME STATUS WORD ..: a run ends with this status
@@ -32,7 +33,8 @@ with_or_without() {
     confined "$1: two under a preference" 0 compare --prefer local-level "$work/fips.json" "$work/fips.json"
     confined "$1: a difference" 1 compare examples/county.vendor-a.json "$one"
     confined "$1: not JSON" 2 check README.md
-    confined "$1: a file that is missing" 3 check "$work/nosuch"
+    confined "$1: a file that is missing" 3 check $'/nosuch\e\x7f\xc2\x9b'
+    equal "$1: its words" "$(cat "$work/err")" $'cannot open\n/nosuch???'
     confined "$1: a folder" 3 check "$work"
     confined "$1: no command" 3
     OUTPUT=1000 confined "$1: a longer output" 125 canon examples/county.vendor-a.json
@@ -43,6 +45,8 @@ with_or_without() {
     MEMORY=100000000 TIME=2 OUTPUT=2000000000 confined "$1: 10 GB of lines" 124 check "$work/name.json"
     MEMORY=100000000 OUTPUT=100000 confined "$1: the beginning of 10 GB" 125 check "$work/name.json"
     ERD=$work/spins TIME=1 confined "$1: a program without end" 124 check "$one"
+    ERD=$work/limits TIME=50 MEMORY=600000000 confined "$1: the limits of a program" 0 check "$one"
+    equal "$1: no core, 50 seconds, and so many kilobytes" "$(cat "$work/out")" '0 50 585937'
     ERD=$work/complains OUTPUT=1000 confined "$1: errors without end" 125 canon "$one"
     equal "$1: their beginning" "$(stat -c %s "$work/err")" 1000
     confined "$1: a pipe" 0 check <(cat "$one")
@@ -51,6 +55,12 @@ with_or_without() {
     equal "$1: its words" "$(cat "$work/err")" 'too long'
     python3 tests/forms/command_lines.py --command confined "$1" script contrib/confined.sh > "$work/lines"
     counted "$1: the table of statuses" "$work/lines"
+}
+
+# with_terminal NAME TEXT: what a program writes that is begun from a terminal, and looks for it
+with_terminal() {
+    ERD=$work/asks run python3 -c 'import os, pty, sys; sys.exit(os.waitstatus_to_exitcode(pty.spawn(sys.argv[1:])))' contrib/confined.sh check "$one"
+    said "$1" "$([ "$status" -eq 0 ] && [ "$(tr -d '\r' < "$work/out")" = "$2" ] || echo "status $status, '$(cat "$work/out")'")"
 }
 
 python3 - "$work" << 'END' || exit 1
@@ -71,6 +81,13 @@ units = [{**unit, '@id': name, 'ExternalIdentifier': [{**unit['ExternalIdentifie
 work.joinpath('fips.json').write_text(json.dumps({**report, 'GpUnit': units}))
 END
 printf '#!/bin/sh\nwhile :; do :; done\n' > "$work/spins"
+printf '#!/bin/sh\necho "$(ulimit -c) $(ulimit -t) $(ulimit -v)"\n' > "$work/limits"
+printf '#!/bin/sh\n{ true < /dev/tty; } 2> /dev/null && echo it has the terminal\nexit 0\n' > "$work/asks"
+# A program that goes on when it is told to end. It is looked at below.
+printf '#!/bin/sh\ntrap "" TERM\nsleep 9\necho late > %s/late\n' "$work" > "$work/stays"
+chmod +x "$work/limits" "$work/asks" "$work/stays"
+ERD=$work/stays TIME=1 SANDBOX=no contrib/confined.sh check "$one" > "$work/stays.out" 2>&1 &
+stays=$!
 # A port of this machine on which somebody listens, until the end of this script.
 mkfifo "$work/port"
 python3 -c '
@@ -92,6 +109,7 @@ for folder in / /tmp /dev /dev/shm /dev/pts /proc /left /usr; do
 done
 { exec 9<> /dev/tcp/127.0.0.1/PORT; } 2> /dev/null && echo 'it opened a connection'
 [ ! -e /home ] && [ ! -e /etc/passwd ] || echo 'it sees other files'
+[ -z "$SECRET" ] || echo 'it has the environment'
 exit 0
 END
 printf '#!/bin/sh\nexec yes complaint >&2\n' > "$work/complains"
@@ -113,6 +131,15 @@ for tool in timeout head mktemp sed; do
 done
 PATH=$work/few confined 'no tool' 3 check "$one"
 equal 'no tool: its words' "$(cat "$work/err")" 'confined.sh: there is no prlimit'
+for tool in prlimit wc rm; do
+    ln -s "$(command -v "$tool")" "$work/few"
+done
+for room in missing broken; do
+    [ "$room" = missing ] || { printf '#!/bin/sh\nexit 1\n' > "$work/few/bwrap"; chmod +x "$work/few/bwrap"; }
+    PATH=$work/few SANDBOX=yes confined "a room that is asked for, where bwrap is $room" 3 check "$one"
+    equal "a room that is asked for, where bwrap is $room: its words" "$(cat "$work/err")" 'confined.sh: bwrap is missing, or may not run here'
+    PATH=$work/few SANDBOX='' confined "a room that is not asked for, where bwrap is $room" 0 check "$one"
+done
 TMPDIR=/nosuch confined 'no folder for a copy' 3 check <(cat "$one")
 equal 'no folder for a copy: its words' "$(tail -n 1 "$work/err")" 'confined.sh: no folder for a copy can be made'
 run setsid -w contrib/confined.sh check /dev/tty
@@ -123,7 +150,8 @@ prefer=local-level confined 'a variable of the environment is no preference' 1 c
 { head -n 1 "$work/writes"; sed -n '/dev\/tcp/,$p' "$work/writes"; } > "$work/connects"
 chmod +x "$work/connects"
 ERD=$work/connects confined 'a program that connects and looks around, without a room' 0 check "$one"
-equal 'what it reached without a room' "$(cat "$work/out")" $'it opened a connection\nit sees other files'
+equal 'what it reached without a room' "$(cat "$work/out")" $'it opened a connection\nit sees other files\nit has the environment'
+with_terminal 'what a terminal has without a room' "it has the terminal"
 
 # The limits that docs/LIMITS.md gives for files of 10 MB, on two honest ones without blanks, which take the most.
 python3 tests/reports/larger.py 111 examples/county-general.json | python3 -c '
@@ -144,9 +172,9 @@ if command -v bwrap > /dev/null && bwrap --ro-bind / / --unshare-all true 2> /de
     with_or_without 'in a room'
     ERD=$work/writes confined 'a program that writes, connects and looks around' 0 check "$one"
     equal 'what it reached' "$(cat "$work/out")none" none
+    with_terminal 'what a terminal has in a room' ''
 else
     echo 'skipped the room: there is no bwrap, or it may not run here'
-    SANDBOX=yes confined 'no room, where one is asked for' 3 check "$one"
 fi
 
 # The recipe for systemd of docs/LIMITS.md, with a program in the place of systemd-run that does as it does: it ends with the status of
@@ -178,6 +206,9 @@ for row in "by-itself $one 0" "by-itself $work/refused.json 1" 'by-itself README
     run env PATH="$work/bin:$PATH" SANDBOX=no ENDS="$ends" UPLOAD="$upload" LINES="$work/lines" sh "$work/recipe"
     said "the recipe for systemd: $ends, $(basename "$upload")" "$([ "$status" -eq "$wanted" ] || echo "status $status, not $wanted")"
 done
+wait "$stays"
+status=$?
+said 'a program that goes on when it is told to end' "$([ "$status" -eq 124 ] && [ ! -e "$work/late" ] || echo "status $status, $(ls "$work/late")")"
 said 'nothing is left of what it kept for a time' "$(ls -A "$work/temporary")"
 run env PATH="$work/bin:$PATH" SANDBOX=no ENDS=by-itself OUTPUT=5 UPLOAD="$one" LINES="$work/lines" sh "$work/recipe"
 said 'the recipe for systemd: more output than it may have' "$([ "$status" -eq 3 ] || echo "status $status")"
