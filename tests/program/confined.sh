@@ -33,6 +33,8 @@ with_or_without() {
     confined "$1: two under a preference" 0 compare --prefer local-level "$work/fips.json" "$work/fips.json"
     confined "$1: a difference" 1 compare examples/county.vendor-a.json "$one"
     confined "$1: not JSON" 2 check README.md
+    confined "$1: not JSON on the right" 2 compare "$one" README.md
+    equal "$1: which of them" "$(cat "$work/out")" 'right: not JSON'
     confined "$1: a file that is missing" 3 check $'/nosuch\e\x7f\xc2\x9b'
     equal "$1: its words" "$(cat "$work/err")" $'cannot open\n/nosuch???'
     confined "$1: a folder" 3 check "$work"

@@ -93,7 +93,7 @@ $folder/d.json"$'\n  /Odd^[/@id: carried identity\n  /Status: not pre-election\n
 for words in '' -- '--prefer' '--prefer local-level' '--prefer=' '--prefer= '"$folder" '-x' '--prefr local-level '"$folder"; do
     run contrib/check-folder.sh $words
     expect_text "usage: check-folder.sh $words" 3 ''
-    said "it is told: check-folder.sh $words" "$(grep -q '^usage: check-folder\.sh \[--prefer TYPE\]' "$work/err" || last_words "$work/err")"
+    equal "it is told: check-folder.sh $words" "$(cat "$work/err")" 'usage: check-folder.sh [--prefer TYPE] [--] FOLDER|FILE ..'
 done
 run contrib/check-folder.sh --prefer '' "$folder"
 expect_text 'an empty preference' 3 ''
