@@ -211,7 +211,8 @@ for jobs in 1 3; do
     run env ERD=counts JOBS=$jobs contrib/check-folder.sh "$folder" "$folder"
     expect_text "ten files, $jobs at a time" 0 ''
     most=$(sort -n "$work/jobs" | tail -n 1)
-    said "each once, and no more than $jobs at a time" "$([ "$(wc -l < "$work/jobs")" -eq 10 ] && [ "$most" -le "$jobs" ] && [ "$most" -gt $((jobs / 2)) ] || echo "$most of $(wc -l < "$work/jobs")")"
+    equal "each of them once, with JOBS=$jobs" "$(wc -l < "$work/jobs")" 10
+    said "no more than $jobs at a time" "$([ "$most" -le "$jobs" ] && [ "$most" -gt $((jobs / 2)) ] || echo "$most")"
 done
 
 # ---- where there is no folder for what is found

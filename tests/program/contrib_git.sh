@@ -246,7 +246,8 @@ told = yaml.safe_load(open(sys.argv[1]))
 job = told["jobs"]["check"]
 print(*sorted(told[True]), told["permissions"], *told["jobs"], *(key for key in job if key not in ("runs-on", "steps")))
 for step in job["steps"]:
-    print(step.get("name", step.get("uses")), *filter(None, [step.get("with")]), *sorted(step.keys() - {"name", "run", "uses", "with"}))' contrib/github-workflow.yml
+    print(step.get("name", step.get("uses")), *filter(None, [step.get("with")]), *sorted(step.keys() - {"name", "run", "uses", "with"}))' \
+        contrib/github-workflow.yml
     expect_text 'the workflow as YAML' 0 "pull_request push {'contents': 'read'} check
 Install erd
 actions/checkout@11bd71901bbe5b1630ceea73d27597364c9af683 {'persist-credentials': False}
