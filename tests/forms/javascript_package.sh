@@ -10,7 +10,7 @@ has_wasm 'the package for JavaScript' || { counts; exit; }
 
 # The module.
 conformance/make
-for part in module refusals; do
+for part in module refusals declared; do
     node tests/forms/javascript_$part.mjs > "$work/$part.log" 2>&1
     counted "the module: $part" "$work/$part.log"
 done
