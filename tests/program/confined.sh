@@ -148,6 +148,19 @@ run setsid -w contrib/confined.sh check /dev/tty
 expect 'a device that cannot be read' 3
 equal 'a device that cannot be read: its words' "$(cat "$work/err")" 'read failed'
 prefer=local-level confined 'a variable of the environment is no preference' 1 check "$work/fips.json"
+# The limits where none is set, as the script says them.
+ERD=$work/limits confined 'the limits that are usual' 0 check "$one"
+equal 'no core, a minute, and 4 GB in kilobytes' "$(cat "$work/out")" '0 60 3906250'
+for row in '100000000 0' '100000001 125'; do
+    read -r size wanted <<< "$row"
+    printf '#!/bin/sh\nhead -c %s /dev/zero\n' "$size" > "$work/long"
+    chmod +x "$work/long"
+    ERD=$work/long contrib/confined.sh check "$one" > /dev/null 2> "$work/err"
+    status=$?
+    expect "a program that writes $size bytes" "$wanted"
+done
+equal 'what it says of them' "$(sed -n 's/^#     \([A-Z]*\) .*(\([0-9]*\))$/\1 \2/p' contrib/confined.sh | paste -sd ' ')" \
+    'MEMORY 4000000000 TIME 60 OUTPUT 100000000'
 # What reaches nothing in a room does reach something without one.
 { head -n 1 "$work/writes"; sed -n '/dev\/tcp/,$p' "$work/writes"; } > "$work/connects"
 chmod +x "$work/connects"

@@ -11,8 +11,12 @@ git init -q "$clone"
 cp -r contrib "$clone"
 mkdir "$clone/ballots"
 cd "$clone" || exit 1
-echo 'ballots/*.json diff=erd' > .gitattributes
-git config diff.erd.textconv 'sh contrib/git-textconv.sh'
+# indented SCRIPT NUMBER: a line that stands indented in the comments: the first is for .gitattributes, and the second a command
+indented() { sed -n 's/^#     //p' "contrib/$1" | sed -n "$2p"; }
+equal 'the line for .gitattributes' "$(indented git-textconv.sh 1)" 'ballots/*.json diff=erd'
+equal 'the same line for the hook' "$(indented pre-commit 1)" "$(indented git-textconv.sh 1)"
+indented git-textconv.sh 1 > .gitattributes
+sh -c "$(indented git-textconv.sh 2)"
 
 # changed: the lines that git shows as taken out or put in
 changed() {
