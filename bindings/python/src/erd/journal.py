@@ -37,7 +37,7 @@ class Journal:
 
     def __init__(self, names: Iterable[str], prefer: Optional[str], pattern: str, keeps: bool, steps: Iterable[str] = ()) -> None:
         asked = [[os.path.abspath(name) for name in names], prefer, pattern, version(), *steps]
-        name = hashlib.sha256(json.dumps(asked).encode('utf-8', 'surrogatepass')).hexdigest()[:32]
+        name = hashlib.sha256(json.dumps(asked).encode('ascii')).hexdigest()[:32]
         self.path = folder() / f'{name}.jsonl'
         self.handle: Optional[int] = None
         self.stamps: Dict[str, Optional[List[int]]] = {}
@@ -64,7 +64,7 @@ class Journal:
     def write(self, line: str) -> None:
         """Writes a line."""
         try:
-            write(self.handle, line.encode('utf-8', 'surrogatepass'))
+            write(self.handle, line.encode('ascii'))
         except Stop:
             raise self.failed() from None
 
@@ -83,7 +83,7 @@ class Journal:
         passed over."""
         found: Dict[str, Dict[str, object]] = {}
         try:
-            lines = self.path.read_text('utf-8', 'surrogatepass').splitlines()
+            lines = self.path.read_text('ascii').splitlines()
         except (OSError, ValueError):
             return []
         for line in lines:
