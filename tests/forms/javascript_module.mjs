@@ -165,8 +165,7 @@ equal('names that are too long together', erd.differences(...wide).differences.m
 const WORDS = ['compare', '--prefer', 'Wähler 🗳', '', 'b'];
 equal('a request', JSON.stringify(erd.commandLine(WORDS)), '{"request":{"command":"compare","files":["","b"],"json":false,"prefer":"Wähler 🗳"}}');
 equal('no words', JSON.stringify(erd.commandLine([])), '{"request":{"command":"filter","files":[],"json":false,"prefer":null}}');
-equal('help', erd.commandLine(['--help']).status, 0);
-equal('wrong words', erd.commandLine(['nosuch']).status, 3);
+equal('help, and wrong words', [['--help'], ['nosuch']].map((words) => erd.commandLine(words).status).join(), '0,3');
 throws('a word with a zero character', TypeError, () => erd.commandLine(['check', 'a\0b']), 'a word has a zero character');
 throws('a word with half a surrogate pair', TypeError, () => erd.commandLine(['check', '\ud800']),
     'a word has half a surrogate pair, so it has no form in UTF-8');
@@ -191,8 +190,7 @@ const TELLING = [(report, mostFaults) => erd.check(report, { mostFaults }), (rep
 equal('whether there is more than is listed', TELLING.map((tell) => [tell('{}', 1).more, tell('{}', 0).more, tell(bytes, 1).more].join()).join(' '),
     Array(4).fill('false,true,false').join(' '));
 equal('the report stays as it is', Buffer.compare(bytes, readFileSync(new URL('small-ballot.json', EXAMPLES))), 0);
-equal('the preference null', erd.check(bytes, { prefer: null }).outcome, 'accepted');
-equal('the empty preference', erd.check(bytes, { prefer: '' }).outcome, 'accepted');
+equal('no preference, and an empty one', [null, ''].map((prefer) => erd.check(bytes, { prefer }).outcome).join(), 'accepted,accepted');
 
 // Names that are written more than once.
 for (const { report, names } of JSON.parse(readFileSync(new URL('repeated_names.json', import.meta.url)))) {
@@ -282,14 +280,16 @@ equal('prepared: the steps that no ballot shows', stepsOf('removed').join(),
     'byte-order-mark,nulls,unused-ids,outside,counts,devices,coordinates,stray-ids,unused-persons,empty-lists,empty-texts');
 equal('prepared: those that change what a voter sees, and those of a view', `${stepsOf('visible')} ${stepsOf('view')}`,
     'gone-candidates,unused-styles unseen,false-flags,other-codes');
-equal('prepared: the steps', STEPS.every(({ title, does, loses }) => [title, does, loses].every((text) => text.length > 5)), true);
 const nulled = (name) => encoder.encode(accepted.toString().replace('"Name":"Test"', `"Name":"${name}","OtherType":null`));
-for (const [name, names, wanted] of [['Test', ['nulls'], 'same\n'], ['Other', ['nulls'], 'election: member "Name"\n'], ['Test', [], 'left: /Election/0/OtherType: wrong kind\n']]) {
+for (const [name, names, wanted] of [['Test', ['nulls'], 'same\n'], ['Other', ['nulls'], 'election: member "Name"\n'],
+    ['Test', [], 'left: /Election/0/OtherType: wrong kind\n'], ['Test","More":1.5,"Word":"w', ['nulls'], 'right: /Election/0/More: not a whole number\n']]) {
     const { compared, left, right } = comparePrepared(nulled('Test'), nulled(name), names.values(), erd);
     equal(`prepared alike, ${name} by ${names.length}: the comparison`, compared.text, wanted);
-    equal(`prepared alike, ${name} by ${names.length}: the steps`, [left, right].map(({ steps }) => steps.length).join(), `${names.length},${names.length}`);
+    equal(`prepared alike, ${name} by ${names.length}: the copies`, [left, right].map(({ bytes, steps }) => `${steps.length} ${bytes.length}`).join(),
+        ['Test', name].map((it) => `${names.length} ${new Preparation(nulled(it), erd).prepare(names).bytes.length}`).join());
 }
-equal('prepared alike: the preferred type', comparePrepared(nulled('Test'), nulled('Test'), ['nulls'], erd, { prefer: 'none' }).compared.outcome, 'same');
+const underType = fileOf(new URL('prefer-accepted-under-a-preference/', SUITE), 'input.json');
+equal('prepared alike: preferred', [{}, { prefer: 'local-level' }].map((it) => comparePrepared(underType, underType, [], erd, it).compared.outcome).join(), 'refused,same');
 throws('prepared: no JSON', Error, () => new Preparation(encoder.encode('{'), erd).prepare([]));
 throws('prepared: a name that no step has', RangeError, () => new Preparation(encoder.encode('{}'), erd).prepare(['nosuch']));
 throws('prepared: a word that names nothing', RangeError, () => erd.prepared('{}', 'nulls,'), 'unknown step');

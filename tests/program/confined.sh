@@ -127,13 +127,16 @@ for words in '' check 'compare README.md' "check --prefer= $one"; do
 done
 ERD=nosuch confined 'no program' 3 check "$one"
 equal 'no program: its words' "$(cat "$work/err")" 'confined.sh: there is no erd'
-mkdir "$work/few"
-for tool in timeout head mktemp sed; do
-    ln -s "$(command -v "$tool")" "$work/few"
+for missing in timeout prlimit head mktemp; do
+    mkdir "$work/no-$missing"
+    for tool in timeout prlimit head mktemp sed; do
+        [ "$tool" = "$missing" ] || ln -s "$(command -v "$tool")" "$work/no-$missing"
+    done
+    PATH=$work/no-$missing confined "no $missing" 3 check "$one"
+    equal "no $missing: its words" "$(cat "$work/err")" "confined.sh: there is no $missing"
 done
-PATH=$work/few confined 'no tool' 3 check "$one"
-equal 'no tool: its words' "$(cat "$work/err")" 'confined.sh: there is no prlimit'
-for tool in prlimit wc rm; do
+mkdir "$work/few"
+for tool in timeout prlimit head mktemp sed wc rm; do
     ln -s "$(command -v "$tool")" "$work/few"
 done
 for room in missing broken; do
