@@ -51,7 +51,7 @@ COMMAND = 'cp -n out/portable/erd.wasm bindings/js; node tests/forms/javascript_
 PACKAGE = 'tests/forms/javascript_package.sh'
 PARTS = [f'node tests/page/{name}.mjs' for name in ('parts', 'lines', 'words', 'shown', 'chosen', 'ballot_words', 'record_words', 'converted',
                                                     'result_told', 'ballots_shown', 'page_told', 'parts_told', 'modules', 'judged')]
-PYTHON_TESTS = ('rows', 'help', 'library', 'calls', 'ballots', 'prepare', 'resume', 'suite', 'commands', 'from_xml', 'many')
+PYTHON_TESTS = ('rows', 'help', 'tree', 'library', 'calls', 'ballots', 'prepare', 'resume', 'suite', 'commands', 'from_xml', 'many')
 # Which parts of the page in a browser concern which of its modules, the last line all others. What a part notices of another module is not asked.
 BROWSED = {
     'overview ballots printed': 'ballot* columns sheets text_changes alignment overview unprinted card search',
