@@ -111,13 +111,13 @@ done
 mkdir "$work/odd"
 cp -r "$folder" "$work/odd/-b"
 cp -r contrib "$work/odd"
-printf x > "$work/odd/"$'-a\e\nb.json'
+printf x > "$work/odd/"$'-a\e\n\tb.json'
 cd "$work/odd" || exit 1
 run contrib/check-folder.sh -- -b
 expect 'a folder whose name begins with a hyphen' 2
 equal 'its files are named' "$(grep -v '^ ' "$work/out")" $'-b/d.json\n-b/e.json'
 run contrib/check-folder.sh -- -*.json
-expect_text 'a name with control characters' 2 $'-a^[?b.json\n  not JSON'
+expect_text 'a name with control characters' 2 $'-a^[??b.json\n  not JSON'
 cd "$top" || exit 1
 endless "$work/endless.json"
 bounded contrib/check-folder.sh "$work/endless.json" "$folder/a.json" "$folder/d.json"
