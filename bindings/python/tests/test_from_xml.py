@@ -285,7 +285,7 @@ ROOTS = {
 @pytest.mark.parametrize('tree, told', ROOTS.values(), ids=ids_of(ROOTS))
 def test_roots_of_json(tree, told):
     found = from_xml.convert(json.dumps(tree).encode('ascii'))
-    assert (json.loads(found.form), found.told) == ({'@type': 'ElectionResults.ElectionReport', 'Notes': 'a'}, told)
+    assert (json.loads(found.form), found.told, found.version) == ({'@type': 'ElectionResults.ElectionReport', 'Notes': 'a'}, told, 2)
 
 
 @pytest.mark.parametrize('tree', [{'Notes': 'a'}, {'ElectionReport': 'a'}, {'ElectionReport': {}, 'Other': {}}, [], {'Ballot': {'@xmlns': 'a'}}])

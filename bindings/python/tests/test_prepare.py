@@ -296,3 +296,8 @@ WHY_LEFT = {
 def test_each_reason_for_what_is_left_has_words():
     assert {why: word for why, word in WHY_LEFT.items() if word in prepare.LEFT_WORDS.get(why, '')} == WHY_LEFT
     assert set(prepare.LEFT_WORDS) == set(WHY_LEFT)
+
+
+def test_why_something_is_left_in_the_words_of_the_page(top):
+    page = json.loads((top / 'web' / 'texts.en.json').read_text(encoding='utf-8'))
+    assert prepare.LEFT_WORDS == {why: page[f'step.left.{why}'] for why in WHY_LEFT}

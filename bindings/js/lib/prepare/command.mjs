@@ -1,7 +1,7 @@
 // What `erd prepare` writes, as the program does.
 import { bytesOfFile, checkThere, opened, STANDARD_ERROR, STANDARD_OUTPUT, Stop, write } from '../files.mjs';
 import { isXml, WHERE_CONVERTED } from '../xml.mjs';
-import { GROUP_WORDS, STEP_WORDS } from './step_words.mjs';
+import { STEP_WORDS } from './step_words.mjs';
 import { hasMark, withoutMark } from '../tree.mjs';
 import { lineOfRemedy, NUMBERS } from './prepared.mjs';
 
@@ -13,7 +13,7 @@ const NOT_JSON = 2;
 /** Does what the request asks for, and returns the status. */
 export function prepared(erd, { files, list, prefer, report, steps }) {
     const names = list ? '' : steps ?? USUAL;
-    checkNames(names);
+    checkNames(erd, names);
     const given = bytesOfFile(opened(files)[0]);
     const [bytes, mark] = hasMark(given) ? [withoutMark(given), MARK_LINE] : [given, ''];
     const made = erd.prepared(bytes, names, { tellsOthers: list || report });
@@ -35,10 +35,11 @@ export function prepared(erd, { files, list, prefer, report, steps }) {
 }
 
 // Stops where a word names nothing, before any file is opened.
-function checkNames(names) {
-    const isName = (word) => Object.hasOwn(STEP_WORDS, word) || Object.hasOwn(GROUP_WORDS, word);
-    if (names !== '' && !names.split(',').every(isName)) {
-        throw new Stop('unknown step');
+function checkNames(erd, names) {
+    try {
+        erd.prepared('{}', names);
+    } catch (error) {
+        throw error instanceof RangeError ? new Stop(error.message) : error;
     }
 }
 

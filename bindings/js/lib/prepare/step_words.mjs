@@ -1,13 +1,5 @@
 // What each step is called, does and gives up, in words for a person. The Python package has the same words.
 
-/** The groups of steps. */
-export const GROUP_WORDS = {
-    removed: 'No ballot has it',
-    'filled-in': 'What a voter sees stays as it is',
-    visible: 'Changes what a voter sees',
-    view: 'Leaves out what a comparison is to pass over',
-};
-
 /** The group and the words of each step, in the order in which they are done: its title, what it does, and what it gives up or what to look at. */
 export const STEP_WORDS = {
     'byte-order-mark': ['removed', 'A byte order mark',

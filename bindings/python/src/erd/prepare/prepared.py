@@ -8,7 +8,7 @@ from typing import Any, Iterable, List, NamedTuple, Tuple, Union
 from ..library import GOOD, NOT_JSON, TooLong, prepared
 from ..results import WORDS
 from ..tree import MARK, NotJson, Tree, WrittenNumber, without_mark, written
-from .step_words import GROUP_WORDS, REMEDIES, STEP_WORDS
+from .step_words import REMEDIES, STEP_WORDS
 
 MARK_STEP = 'byte-order-mark'
 """The step that concerns the bytes and not the tree. The library takes bytes without a mark."""
@@ -29,6 +29,8 @@ class Step(NamedTuple):
 
 STEPS = [Step(name, *words) for name, words in STEP_WORDS.items()]
 """Every step, in the order in which they are done."""
+
+GROUPS = frozenset(step.group for step in STEPS)
 
 ABSENT = object()
 """The value of a member or an entry that is not there."""
@@ -112,9 +114,9 @@ def names_of(text: str) -> List[str]:
     for a word that is neither."""
     names: List[str] = []
     for word in text.split(','):
-        if word not in GROUP_WORDS and word not in STEP_WORDS:
+        if word not in GROUPS and word not in STEP_WORDS:
             raise ValueError(f'there is no step {word}')
-        names += steps_of(word) if word in GROUP_WORDS else [word]
+        names += steps_of(word) if word in GROUPS else [word]
     return names
 
 

@@ -4,14 +4,6 @@ from __future__ import annotations
 
 from typing import Dict, List, Tuple
 
-GROUP_WORDS = {
-    'removed': 'No ballot has it',
-    'filled-in': 'What a voter sees stays as it is',
-    'visible': 'Changes what a voter sees',
-    'view': 'Leaves out what a comparison is to pass over',
-}
-"""The groups of steps."""
-
 STEP_WORDS: Dict[str, Tuple[str, str, str, str]] = {
     'byte-order-mark': (
         'removed',
