@@ -1,6 +1,6 @@
 #!/usr/bin/env bash
 # Puts what is handed on into out/release: each file of release-files.txt, a bill of materials, and SHA256SUMS. It makes every form
-# anew, and where one can't be made, or its file is missing, there is no release.
+# anew, and where one can't be made, or its file is missing or there are two, there is no release.
 set -eu
 cd "$(dirname "$0")/.."
 . packaging/version.sh
@@ -21,14 +21,19 @@ packaging/portable/javascript.sh
 packaging/python.sh
 
 mkdir -p "$release.new"
-missing=()
+wrong=()
 while read -r pattern; do
-    mapfile -t found < <(compgen -G "out/${pattern//@VERSION@/$version}")
-    [ ${#found[@]} -eq 1 ] && cp -L "${found[0]}" "$release.new" || missing+=("$pattern")
+    pattern=out/${pattern//@VERSION@/$version}
+    mapfile -t found < <(compgen -G "$pattern" | LC_ALL=C sort)
+    case ${#found[@]} in
+    0) wrong+=("there is no $pattern") ;;
+    1) cp -L "${found[0]}" "$release.new" ;;
+    *) wrong+=("one file is wanted for $pattern, and there are ${#found[@]}: ${found[*]}") ;;
+    esac
 done < <(grep -v '^#' packaging/release-files.txt | grep .)
-if [ ${#missing[@]} -gt 0 ]; then
+if [ ${#wrong[@]} -gt 0 ]; then
     rm -rf "$release.new"
-    printf 'no release: there is no out/%s\n' "${missing[@]//@VERSION@/$version}" >&2
+    printf 'no release: %s\n' "${wrong[@]}" >&2
     exit 1
 fi
 python3 packaging/bill_of_materials.py "$version" "$SOURCE_DATE_EPOCH" "$(dirname "$(rt doc)")" "$release.new" \

@@ -98,6 +98,8 @@ sed -i 1d "$copy/packaging/release-files.txt"
 touch "$copy/out/python/erd-$version-0-manylinux_2_0_x86_64.whl"
 run "$copy/packaging/release.sh"
 expect 'two files in the place of one stop it' 1
+equal 'it says which' "$(sed 's/: [^:]*$//' "$work/err")" \
+    "no release: one file is wanted for out/python/erd-$version-*manylinux*x86_64.whl, and there are 2"
 said 'nothing is left of that' "$(ls -d "$copy"/out/release* 2> /dev/null)"
 
 # The library's packages, in an empty root.
