@@ -51,11 +51,12 @@ def version_of_debian(name):
 
 # The files that have erd.wasm in them, as the page has it, which stands in the packages of the program.
 HAVE_WASM = [r'/erd\.wasm$', r'/erd\.html$', r'/erd-.*\.tgz$', r'/erd_.*\.deb$', r'/erd-[^/]*-linux-', 'windows']
+FOR_WINDOWS = ['windows', r'win_amd64\.whl$']
 # What Debian's tools put into the forms: the package, its licence and the files that have its code.
 FROM_DEBIAN = [
     ('libclang-rt-22-dev-wasm64', 'Apache-2.0 WITH LLVM-exception', HAVE_WASM),
-    ('gcc-mingw-w64-x86-64-posix', 'GPL-3.0-or-later WITH GCC-exception-3.1', ['windows']),
-    ('mingw-w64-x86-64-dev', 'MIT AND LicenseRef-mingw-w64-public-domain', ['windows']),
+    ('gcc-mingw-w64-x86-64-posix', 'GPL-3.0-or-later WITH GCC-exception-3.1', FOR_WINDOWS),
+    ('mingw-w64-x86-64-dev', 'MIT AND LicenseRef-mingw-w64-public-domain', FOR_WINDOWS),
     ('gcc-aarch64-linux-gnu', 'GPL-3.0-or-later WITH GCC-exception-3.1', ['aarch64', 'arm64']),
 ]
 
