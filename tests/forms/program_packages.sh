@@ -39,6 +39,9 @@ same_bytes 'the tarball has the same bytes again' "out/$tarball.tar.gz" "$work/f
 # The package.
 equal 'the name of the package' "$(field Package)" erd
 equal 'the version of the package' "$(field Version)" "$version-1"
+equal 'for which machine it is' "$(field Architecture) $(field Section) $(field Priority)" "$(dpkg --print-architecture) utils optional"
+equal 'what else is of use' "$(field Suggests)" 'bubblewrap, python3, www-browser'
+described 'the package' "out/$package"
 linked=$(ldd "$program" | sed -n 's/.* => \(\/[^ ]*\) .*/\1/p')
 why=''
 for library in $linked; do
@@ -69,11 +72,10 @@ works 'from the package' "$usr/bin/erd" "$usr/share/doc/erd/examples"
 same_bytes 'the manual page' docs/erd.1 <(gzip -dc "$usr/share/man/man1/erd.1.gz")
 same_bytes 'the changelog' CHANGELOG.md <(gzip -dc "$usr/share/doc/erd/changelog.gz")
 equal 'the version in the changelog of Debian' "$(version_told "$usr/share/doc/erd")" "erd $version-1 $version"
-why=''
-for words in 'Expat or Apache-2.0' "$(sed -n 's/^Copyright (c) //p' LICENSE-MIT)" 'common-licenses/Apache-2.0'; do
-    grep -qF "$words" "$usr/share/doc/erd/copyright" || why+="it has no '$words'; "
-done
-said 'the copyright file has both licenses' "$why"
+noted "$usr/share/doc/erd"
+equal 'where the Apache License stands' "$(grep -c '^ /usr/share/common-licenses/Apache-2.0\.$' "$usr/share/doc/erd/copyright")" 1
+equal 'the day in the changelog of Debian' "$(date -u -d "$(gzip -dc "$usr/share/doc/erd/changelog.Debian.gz" | sed -n 's/^ -- .*>  //p')" +%F)" \
+    "$(sed -n "s/^## $version - //p" CHANGELOG.md)"
 installing --purge erd
 expect 'dpkg removes it' 0
 said 'no file of it is left' "$(find "$work/root" ! -type d ! -path '*/var/lib/dpkg/*' | head -n 3)"
@@ -84,5 +86,19 @@ listed 'the files of the tarball, their modes and owners' packaging/files/erd.ta
 run tar --extract --gzip --file "out/$tarball.tar.gz" --directory "$work"
 expect 'tar unpacks the tarball' 0
 works 'from the tarball' "$work/$tarball/bin/erd" "$work/$tarball/share/doc/erd/examples"
+
+# Another hands the package on.
+run env MAINTAINER='Ann Other <ann@other.example>' packaging/deb.sh
+equal 'another hands it on' "$(field Maintainer)" 'Ann Other <ann@other.example>'
+equal 'and says so in the changelog of Debian' "$(dpkg-deb --fsys-tarfile "out/$package" | tar --extract --to-stdout ./usr/share/doc/erd/changelog.Debian.gz |
+    gzip -dc | sed -n 's/^ -- \(.*>\)  .*/\1/p')" 'Ann Other <ann@other.example>'
+cp "$work/first/$package" out
+# What nothing says it is linked with has no package.
+mkdir -p "$work/alone"
+printf '#!/bin/sh\necho "dpkg-shlibdeps: error: no library" >&2\nexit 2\n' > "$work/alone/dpkg-shlibdeps"
+chmod +x "$work/alone/dpkg-shlibdeps"
+run env PATH="$work/alone:$PATH" packaging/deb.sh
+expect 'a program of which nobody knows what it is linked with' 1
+equal 'what is said of it' "$(tail -n 1 "$work/err")" 'dpkg-shlibdeps: error: no library'
 
 counts

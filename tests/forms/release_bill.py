@@ -8,6 +8,10 @@ import sys
 ALSO = {'spdxVersion', 'dataLicense', 'SPDXID', 'name', 'documentNamespace', 'creationInfo', 'packages', 'files', 'relationships'}
 
 
+# Libraries that are linked, and what Debian's tools put in.
+NAMED = {'erd', 'dlmalloc', 'arrayvec', 'clap', 'indexmap', 'itoa', 'json', 'ryu', 'serde_json', 'std', 'strsim', 'thiserror', 'gcc-aarch64-linux-gnu',
+         'gcc-mingw-w64-x86-64-posix', 'libclang-rt-22-dev-wasm64', 'mingw-w64-x86-64-dev'}
+
 # What a library is licensed under that has such a file.
 TOLD_BY = {'LICENSE-MIT': 'MIT', 'LICENSE-APACHE': 'Apache-2.0', 'LICENSE-UNICODE': 'Unicode-3.0'}
 
@@ -53,8 +57,10 @@ def faults(folder, version):
         for end in (relation['spdxElementId'], relation['relatedSpdxElement']):
             if end not in names:
                 yield f'a relation names {end}, which is not there'
-    if {'dlmalloc', 'serde_json', 'erd'} - {package['name'] for package in document['packages']}:
+    if NAMED - {package['name'] for package in document['packages']}:
         yield 'a library that is linked is not named'
+    if any(package['versionInfo'] != version for package in document['packages'] if package['name'] == 'erd'):
+        yield 'it is of another version'
 
 
 def main():

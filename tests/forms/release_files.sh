@@ -117,6 +117,7 @@ PATH=$PATH:/usr/sbin:/sbin run dpkg --root="$root" --force-not-root --force-depe
 expect 'dpkg installs the library' 0
 for package in liberd0 liberd-dev; do
     equal "the version in the changelog of $package" "$(version_told "$root/usr/share/doc/$package")" "erd $version-1 $version"
+    noted "$root/usr/share/doc/$package"
 done
 if command -v pkg-config > /dev/null; then
     found=$(env -i PATH="$tools" PKG_CONFIG_SYSROOT_DIR="$root" PKG_CONFIG_LIBDIR="$root/usr/lib/x86_64-linux-gnu/pkgconfig" \
@@ -135,6 +136,32 @@ printf 'Source: over\n\nPackage: over\nArchitecture: any\n' > "$work/over/debian
 run env -C "$work/over" dpkg-shlibdeps -O -S"$work/liberd0" "$work/shared"
 equal 'what a package with this program needs' "$(grep -o 'liberd0 [^,]*' "$work/out")" "liberd0 (>= $version)"
 equal 'what liberd-dev needs' "$(dpkg-deb --field "$release/liberd-dev_$version-1_amd64.deb" Depends)" "liberd0 (= $version-1)"
+for row in 'liberd0 amd64 libs' 'liberd0 arm64 libs' 'liberd-dev amd64 libdevel' 'liberd-dev arm64 libdevel'; do
+    read -r package architecture section <<< "$row"
+    file=$release/${package}_$version-1_$architecture.deb
+    equal "what $package for $architecture is" "$(dpkg-deb --show --showformat '${Package} ${source:Package} ${Version} ${Architecture} ${Multi-Arch} ${Section}' "$file")" \
+        "$package erd $version-1 $architecture same $section"
+    described "$package for $architecture" "$file"
+done
+dpkg-deb --control "$release/liberd0_$version-1_amd64.deb" "$work/control"
+equal 'what dpkg does after liberd0' "$(cat "$work/control/triggers")" 'activate-noawait ldconfig'
+equal 'what other packages need for it' "$(cat "$work/control/shlibs")" "liberd 0 liberd0 (>= $version)"
+equal 'the file for pkg-config in the package' "$(cat "$root/usr/lib/x86_64-linux-gnu/pkgconfig/erd.pc")" "prefix=/usr
+libdir=\${prefix}/lib/x86_64-linux-gnu
+includedir=\${prefix}/include
+
+Name: erd
+Description: Canonical form, check and comparison of pre-election ballot definitions
+Version: $version
+Libs: -L\${libdir} -lerd
+Cflags: -I\${includedir}"
+# The archive of the library has its own, which names the folder in which it stands.
+tar --extract --gzip --file "$release/liberd-$version-linux-x86_64.tar.gz" --directory "$work"
+folder=$work/liberd-$version-linux-x86_64
+if command -v pkg-config > /dev/null; then
+    equal 'the file for pkg-config in the archive' "$(env -i PATH="$tools" PKG_CONFIG_LIBDIR="$folder/pkgconfig" pkg-config --modversion --cflags --libs erd |
+        paste -sd ' ' | sed "s|$folder/pkgconfig/\.\.|HERE|g; s/ *$//")" "$version -IHERE -LHERE -lerd"
+fi
 plain cc -I"$root/usr/include" "$example" "$root/usr/lib/x86_64-linux-gnu/liberd.a" -o "$work/static"
 expect 'a program over the static library' 0
 answers 'with liberd.a' "$work/static"

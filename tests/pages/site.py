@@ -1,6 +1,8 @@
 """Makes the site and looks at it: where its links lead, what each page has, and in Chromium how wide each page is at 375 points, and what the
-search finds first with no server. One line a case that fails, and at the end the counts."""
+search finds first with no server. A site of a few small pages is held against what is wanted by hand. One line a case that fails, and at the
+end the counts."""
 import html.parser
+import json
 import os
 import pathlib
 import re
@@ -20,6 +22,17 @@ ASKED = {
     'why is a file rejected': 'docs/GUIDE.html', 'Why was my file rejected?': 'docs/GUIDE.html', 'how do I compare two ballots': 'docs/GUIDE.html',
     'what is in a release': 'docs/INSTALL.html', 'what does a release hold': 'docs/INSTALL.html', 'spanish': 'docs/GUIDE.html', 'release': 'docs/INSTALL.html', 'what is proved': 'index.html', 'untrusted': 'docs/GUIDE.html',
     'byte order mark': 'docs/FIXES.html',
+}
+
+
+# A repository of a few pages.
+SMALL = {
+    'VERSION': '1.2.3\n', 'CHANGELOG.md': '# Changes\n\n## Unreleased\n\n## 1.2.3 - 2031-02-03\n\n## 1.2.0 - 2030-02-03\n',
+    'README.md': '# `erd`\n\nFirst words, [the guide](docs/GUIDE.md#one), [a file](examples/a.json), [a folder](examples) and [another](more).\n',
+    'docs/GUIDE.md': '# The guide & more\n\n## One\n\nWords of `one`.\n\n### Deep\n\n| a |\n|---|\n| b |\n\n## Two\n\n[Up](../README.md), [the web](https://a.example/x.md).\n',
+    'examples/README.md': '# Examples\n\n## One\n\n## Two\n', 'examples/a.json': '{}', 'more/b.txt': '', 'web/fixes.es.md': '# Arreglos\n',
+    'docs/OTHER.md': 'No heading.\n', 'third_party/x.md': '# X\n', 'crates/y/z.md': '# Z\n', 'out/made.md': '# Made\n', 'node_modules/n.md': '# N\n',
+    'out/portable/erd.html': 'the page', 'out/erd-1.2.3-conformance.tar.gz': 'the suite', 'out/erd-1.2.0-conformance.tar.gz': 'an older one',
 }
 
 
@@ -94,7 +107,79 @@ def in_browser(pages):
             browser.close()
 
 
+def small_site():
+    """The cases of the small repository."""
+    with tempfile.TemporaryDirectory() as folder:
+        top = pathlib.Path(folder)
+        shutil.copytree(ROOT / 'packaging', top / 'packaging')
+        for name, text in SMALL.items():
+            (top / name).parent.mkdir(parents=True, exist_ok=True)
+            (top / name).write_text(text, encoding='utf-8')
+        ran = subprocess.run([sys.executable, top / 'packaging' / 'site.py'], capture_output=True, text=True)
+        site = top / 'out' / 'site'
+        told = (ran.returncode, ran.stdout, ran.stderr)
+        yield from compared(
+            ('what is told', (0, 'out/site: 6 pages\n', 'site: there is no out/release/SHA256SUMS\nsite: there is no out/release/erd-1.2.3.spdx.json\n'), told),
+            ('its files', ['CHANGELOG.html', 'contents.html', 'docs/GUIDE.html', 'docs/OTHER.html', 'erd-1.2.3-conformance.tar.gz', 'erd.html', 'examples/README.html',
+                           'examples/a.json', 'index.html', 'search.html', 'search.js', 'sections.js', 'style.css', 'web/fixes.es.html'],
+             sorted(str(path.relative_to(site)) for path in site.rglob('*') if path.is_file())))
+        if ran.returncode == 0:
+            yield from small_pages({str(path.relative_to(site)): path.read_text(encoding='utf-8') for path in site.rglob('*') if path.is_file()})
+        (top / 'docs' / 'OTHER.md').write_text('[nowhere](nowhere.md)')
+        ran = subprocess.run([sys.executable, top / 'packaging' / 'site.py'], capture_output=True, text=True)
+        yield from compared(('a link that leads nowhere', 'FileNotFoundError: docs/OTHER.md: nowhere.md', ran.stderr.strip().split('\n')[-1]),
+                            ('the site of before stays', True, (site / 'index.html').exists()))
+
+
+def small_pages(read):
+    """What the pages of the small site have."""
+    links = re.findall(r'<a href="([^"]*)">(.*?)</a>', read['index.html'].split('<main>')[1].split('</main>')[0])
+    rows = re.findall(r'<li><a href="([^"]*)">(.*?)</a>(?:: (.*?))?</li>', read['contents.html'].split('<main>')[1].split('</main>')[0])
+    guide = read['docs/GUIDE.html']
+    navigation = guide.split('<nav id="pages"')[1].split('<h2>Files')[0]
+    contents = guide.split('aria-label="On this page"')[1].split('</nav>')[0]
+    sections = json.loads(read['sections.js'].removeprefix('const sections = ').rstrip(';\n'))
+    yield from compared(
+        ('its links', [('docs/GUIDE.html#one', 'the guide'), ('examples/a.json', 'a file'), ('examples/README.html', 'a folder'), ('index.html', 'another')], links),
+        ('the page of all files and pages', [
+            ('erd.html', 'erd.html', 'the page that checks and compares files in a browser'),
+            ('erd-1.2.3-conformance.tar.gz', 'erd-1.2.3-conformance.tar.gz', 'the conformance suite, a folder for each case'),
+            ('index.html', 'erd', 'README.md'), ('docs/GUIDE.html', 'The guide &amp; more', 'docs/GUIDE.md'),
+            ('examples/README.html', 'Examples', 'examples/README.md'), ('web/fixes.es.html', 'Arreglos', 'web/fixes.es.md'),
+            ('CHANGELOG.html', 'Changes', 'CHANGELOG.md'), ('docs/OTHER.html', 'docs/OTHER.md', 'docs/OTHER.md')], rows),
+        ('the links of a page', ['../index.html', 'https://a.example/x.md'], re.findall(r'href="([^"]*)"', guide.split('id="two"')[1].split('</p>')[0])),
+        ('the way to all pages', [
+            ('../index.html', '', 'erd'), ('GUIDE.html', ' aria-current="page"', 'Guide'), ('../examples/README.html', '', 'Examples'),
+            ('../web/fixes.es.html', '', 'Español'), ('../CHANGELOG.html', '', 'Changes')], re.findall(r'<a href="([^"]*)"( aria-current="page")?>([^<]*)</a>', navigation)),
+        ('what stands on a page', [('2', 'one', 'One'), ('3', 'deep', 'Deep'), ('2', 'two', 'Two')],
+         re.findall(r'<li class="h(.)"><a href="#([^"]*)">([^<]*)</a>', contents)),
+        ('a page with two sections has no contents', False, 'On this page' in read['examples/README.html']),
+        ('the languages', ['en', 'es'], [re.search('<html lang="(..)">', read[name])[1] for name in ('index.html', 'web/fixes.es.html')]),
+        ('the titles', ['erd', 'The guide &amp; more', 'docs/OTHER.md', 'Everything here', 'Search'],
+         [re.search('<title>(.*)</title>', read[name])[1] for name in ('index.html', 'docs/GUIDE.html', 'docs/OTHER.html', 'contents.html', 'search.html')]),
+        ('the version and its day', {'erd 1.2.3 of 2031-02-03'}, {re.search('<footer lang="en">(.*)</footer>', text)[1] for name, text in read.items() if name in HAVE_FOOT}),
+        ('a table can be scrolled', 1, guide.count('<div class="wide"><table')),
+        ('the files that were copied', ['{}', 'the page', 'the suite'], [read[name] for name in ('examples/a.json', 'erd.html', 'erd-1.2.3-conformance.tar.gz')]),
+        ('what the search knows of a page', [
+            {'page': 'docs/GUIDE.html', 'anchor': 'the-guide--more', 'text': '', 'weight': 4, 'title': 'The guide & more', 'heading': ''},
+            {'page': 'docs/GUIDE.html', 'anchor': 'one', 'text': 'Words of one .', 'weight': 4, 'title': 'The guide & more', 'heading': 'One'},
+            {'page': 'docs/GUIDE.html', 'anchor': 'deep', 'text': 'a b', 'weight': 4, 'title': 'The guide & more', 'heading': 'Deep'},
+            {'page': 'docs/GUIDE.html', 'anchor': 'two', 'text': 'Up , the web .', 'weight': 4, 'title': 'The guide & more', 'heading': 'Two'}],
+         [one for one in sections if one['page'] == 'docs/GUIDE.html']),
+        ('what a page counts for that is in no group', [1], [one['weight'] for one in sections if one['page'] == 'docs/OTHER.html']))
+
+
+HAVE_FOOT = ('index.html', 'docs/GUIDE.html', 'contents.html', 'search.html')
+
+
+def compared(*rows):
+    """Cases of what is wanted and what is found."""
+    for name, wanted, found in rows:
+        yield f'a small site: {name}', '' if wanted == found else f'{found} is there, and not {wanted}'
+
+
 def cases():
+    yield from small_site()
     ran = subprocess.run([sys.executable, ROOT / 'packaging' / 'site.py'], capture_output=True, text=True)
     yield 'the site is made', '' if ran.returncode == 0 else ran.stderr
     if ran.returncode == 0:

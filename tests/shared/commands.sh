@@ -96,6 +96,32 @@ version_told() {
     gzip -dc "$1/changelog.Debian.gz" | sed -n '1s/^\(.*\) (\(.*\)) .*/\1 \2/p; s/^  \* Version \([0-9.]*[0-9]\)\. .*/\1/p' | paste -sd ' '
 }
 
+# described NAME PACKAGE: a package says who hands it on, how large it is, within a tenth, and the sums of its files
+described() {
+    local folder=$work/described size sum
+    rm -rf "$folder"
+    dpkg-deb --raw-extract "$2" "$folder"
+    equal "who hands on $1" "$(dpkg-deb --field "$2" Maintainer)" 'The maintainers of erd <maintainers@users.noreply.hovigyal.example>'
+    size=$(find "$folder/usr" -type f -printf '%s\n' | awk '{ sum += $1 } END { print int(sum / 1024) }')
+    sum=$(dpkg-deb --field "$2" Installed-Size)
+    said "how large $1 is" "$([ $((sum * 10)) -ge $((size * 9)) ] && [ "$sum" -le $((size * 11 / 10 + 20)) ] || echo "it says $sum kB, and has $size")"
+    run env -C "$folder" md5sum --quiet --check --strict DEBIAN/md5sums
+    expect_text "the sums in $1" 0 ''
+    equal "each file of $1 has its sum" "$(sed 's/^[^ ]*  //' "$folder/DEBIAN/md5sums")" "$(cd "$folder" && find usr -type f | LC_ALL=C sort)"
+}
+
+# noted FOLDER: the file `copyright` in this folder has the licences of the libraries that are linked
+noted() {
+    local name why=''
+    for name in arrayvec clap fast_float indexmap itoa ryu serde serde_json simdutf8 strsim thiserror 'dlmalloc, in erd.wasm, the npm package and the page'; do
+        grep -qx " $name" "$1/copyright" || why+="it lacks $name; "
+    done
+    said "the notices in ${1##*/}" "$why$(grep -n '^[^ ]' "$1/copyright" | grep -v ':\(Format\|Upstream-Name\|Comment\|Files\|Copyright\|License\):')"
+    equal "the licence for all files in ${1##*/}" "$(sed -n '/^Files: \*/,/^$/p' "$1/copyright" | paste -sd ' ')" \
+        'Files: * Copyright: 2026 The maintainers of erd License: Expat or Apache-2.0 '
+    equal "the words of the Expat licence in ${1##*/}" "$(sed -n '/^License: Expat$/,/^$/p' "$1/copyright" | sed '1d; $d; s/^ //; s/^\.$//')" "$(tail -n +5 LICENSE-MIT)"
+}
+
 # works NAME PROGRAM EXAMPLES: the program does what it is for, on these examples
 works() {
     run "$2" check "$3/one-unit.json"
