@@ -10,9 +10,10 @@ wheels=$PWD/out/python
 rm -rf "$wheels"
 mkdir -p "$wheels"
 
-# needed LIBRARY: the newest version of the C library that a shared library needs, as 2_14
+# needed LIBRARY: the newest version of the C library that a shared library needs, as 2_34. No manylinux name is older than 2_17 for
+# these machines
 needed() {
-    objdump -T "$1" | grep -oE 'GLIBC_[0-9]+\.[0-9]+' | sed 's/GLIBC_//; s/\./_/' | sort -u -t _ -k 1,1n -k 2,2n | tail -n 1
+    { echo 2_17; objdump -T "$1" | grep -oE 'GLIBC_[0-9]+\.[0-9]+' | sed 's/GLIBC_//; s/\./_/'; } | sort -t _ -k 1,1n -k 2,2n | tail -n 1
 }
 
 # wheel PLATFORM LIBRARY NAME: a wheel for the platform, with the library under this name
@@ -29,11 +30,7 @@ wheel() {
 
 for machine in x86_64 aarch64; do
     library=out/portable/linux-$machine/liberd.so.0
-    [ -e "$library" ] || continue
-    version_needed=$(needed "$library")
-    # no manylinux name is older than 2_17 for these machines
-    [ "${version_needed#2_}" -ge 17 ] || version_needed=2_17
-    wheel "manylinux_${version_needed}_$machine" "$library" liberd.so.0
+    [ ! -e "$library" ] || wheel "manylinux_$(needed "$library")_$machine" "$library" liberd.so.0
 done
 [ ! -e out/portable/windows-x86_64/erd.dll ] || wheel win_amd64 out/portable/windows-x86_64/erd.dll erd.dll
 ls "$wheels"

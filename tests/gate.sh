@@ -89,7 +89,8 @@ echo 'First come the parts that need no proof: for a minute or two they tell whe
 first 'python3 tests/pages/facts_and_links.py' 'python3 tests/pages/definitions.py' 'python3 tests/pages/closures.py' \
     'python3 tests/pages/exists.py' 'python3 tests/pages/documented.py' 'python3 tests/pages/quotes.py' 'python3 tests/pages/gate_times.py' \
     'tests/pages/commit_message.sh' 'tests/pages/version.sh' 'tests/forms/signed_sums.sh' 'python3 packaging/notices.py' \
-    'python3 tests/bodies/self_test.py' 'tests/bodies/the_gate.sh' 'tests/forms/small_scripts.sh' 'tests/forms/made_anew.sh' 'python3 tests/forms/release_papers.py' \
+    'python3 tests/bodies/self_test.py' 'tests/bodies/the_gate.sh' 'tests/forms/small_scripts.sh' 'tests/forms/made_anew.sh' \
+    'tests/forms/parts_alone.sh' 'python3 tests/forms/release_papers.py' \
     'conformance/run --in-process reference/erd_reference.py' \
     'conformance/run --differences --in-process reference/erd_reference.py' \
     'conformance/run --entries --in-process reference/erd_reference.py' 'tests/bodies/try_wrong.py programs' \

@@ -11,7 +11,7 @@ cp tests/shared/counting.sh "$tree/tests/shared"
 cp -r bindings/c "$tree/bindings"
 
 # What a compiler is given becomes what it makes.
-handed_on=('while [ $# -gt 0 ]; do case $1 in -o) to=$2; shift ;; -dumpversion) echo 99.1.2; exit ;; -*) ;; *) [ ! -f "$1" ] || from=$1 ;; esac; shift; done'
+handed_on=('while [ $# -gt 0 ]; do case $1 in -o | -l) to=$2; shift ;; -dumpversion) echo 99.1.2; exit ;; -*) ;; *) [ ! -f "$1" ] || from=$1 ;; esac; shift; done'
     'cat "$from" > "$to"')
 fake "$KIT/toolchain/bin/clang" "${handed_on[@]}"
 fake "$tools/cc" '[[ $* != -print-file-name=include ]] || { echo /usr/include; exit; }' "${handed_on[@]}"
@@ -284,6 +284,36 @@ fresh packaging/portable/linux.sh x86_64
 expect 'the library for this machine' 0
 equal 'its code' "$(cat "$tree/out/portable/linux-x86_64/liberd.a")" 'the code of a release'
 equal 'how it comes' "$(grep -v '^rt\|-print-file-name' "$asked" | cut -d ' ' -f 1,2 | paste -sd ';')" 'module.sh ;profiled.sh liberd.a;cc -shared'
+
+# For other machines the proved code is compiled by the profile, and the library is of all parts.
+fake "$KIT/toolchain/bin/clang" '[ "$1" != rcsD ] || { cat "${@:3}" > "$2"; exit; }' "${handed_on[@]}"
+sed -i 's/ @llvm.x86.other.b(/(/' "$tree/crates/erd/out/module.bc"
+for part in proved calls heap; do
+    echo "$part" > "$parts/$part.ll"
+done
+fresh env -u PROFILE packaging/portable/linux.sh aarch64
+expect 'the library for aarch64' 0
+equal 'its parts' "$(cat "$tree/out/portable/linux-aarch64/liberd.a")" "$(cat "$parts/proved.ll" packaging/portable/pick_bytes/aarch64.ll; echo calls; echo heap)"
+equal 'each is compiled by the profile' "$(grep -c -- "^clang --target=aarch64-linux-gnu -O3 -fPIC .* -fprofile-use=$tree/out/profile/erd.profdata" "$asked")" 3
+equal 'its files' "$(cd "$tree/out/portable/linux-aarch64" && LC_ALL=C ls -R | paste -sd ' ')" \
+    ".: erd.h liberd.a liberd.so liberd.so.0 liberd.so.$(cat VERSION) pkgconfig  ./pkgconfig: erd.pc"
+fresh env -u PROFILE packaging/portable/windows.sh
+expect 'the library for Windows' 0
+equal 'its parts are compiled by the profile' "$(grep -- "-fprofile-use=$tree/out/profile/erd.profdata" "$asked" | grep -o ' out/portable/parts/[a-z]*\.ll' | paste -sd ' ')" \
+    ' out/portable/parts/proved.ll  out/portable/parts/calls.ll  out/portable/parts/heap.ll'
+equal 'what is linked' "$(grep -o 'gcc -shared .*' "$asked" | grep -o 'parts/\S*' | paste -sd ' ')" \
+    'parts/proved.windows.o parts/calls.windows.o parts/heap.windows.o parts/rc.windows.o parts/erd.def'
+equal 'what it exports' "$(cat "$parts/erd.def")" "LIBRARY erd.dll
+EXPORTS
+$(sed 's/^/    /' packaging/portable/exports.txt)"
+numbers=$(tr . , < VERSION),0
+for row in 'erd.dll 2' 'erd.exe 1'; do
+    read -r file type <<< "$row"
+    # shellcheck disable=SC2016
+    fresh bash -c '. packaging/portable/common.sh; resource "$1" out/rc' form.sh "$file"
+    equal "what Windows tells of $file" "$(grep -o '@.*@\|^F.*ION .*\|^P.*ION .*\|^FILETYPE.*\|"FileV.*\|"Orig.*\|"ProductV.*' "$tree/out/rc" | paste -sd ';')" \
+        "FILEVERSION $numbers;PRODUCTVERSION $numbers;FILETYPE $type;\"FileVersion\", \"$(cat VERSION)\";\"OriginalFilename\", \"$file\";\"ProductVersion\", \"$(cat VERSION)\""
+done
 
 # make erd: each crate after those that it stands on, and what of it is told.
 cat > "$tree/CONTRIBUTING.md" << 'END'

@@ -56,6 +56,8 @@ of_linux() {
     # shellcheck disable=SC2046
     exported "the library for $processor" $(dynamic "$folder/liberd.so")
     equal "the name in the library for $processor" "$(readelf -d "$folder/liberd.so" | sed -n 's/.*soname: \[\(.*\)\]/\1/p')" liberd.so.0
+    guarded "the library for $processor" "$folder/liberd.so"
+    equal "what the library for $processor needs" "$(readelf -dW "$folder/liberd.so" | sed -n 's/.*(NEEDED).*\[\(.*\)\]/\1/p' | grep -v '^ld-linux' | paste -sd ' ')" libc.so.6
     run "$compiler" -std=c11 -O2 -Wall -Wextra -I"$folder" tests/forms/caller.c -L"$folder" -lerd -o "$work/$processor-caller"
     expect "a caller for $processor" 0
     answers "$processor" "${@:3}" "$work/$processor-caller"
@@ -69,6 +71,10 @@ of_windows() {
     # shellcheck disable=SC2046
     exported 'erd.dll' $(x86_64-w64-mingw32-objdump -p "$folder/erd.dll" |
         sed -n 's/^\t*\[ *[0-9]*\].* \(erd_[a-z_]*\)$/\1/p')
+    guarded_for_windows erd.dll "$folder/erd.dll"
+    equal 'erd.dll needs what every Windows has' "$(x86_64-w64-mingw32-objdump -p "$folder/erd.dll" | sed -n 's/.*DLL Name: //p' | sort | paste -sd ' ')" \
+        'KERNEL32.dll erd.dll msvcrt.dll'
+    equal 'erd.dll has the version' "$(strings -el "$folder/erd.dll" | grep -A 1 '^ProductVersion$' | tail -n 1)" "$(cat VERSION)"
     cp "$folder/erd.dll" "$work"
     run x86_64-w64-mingw32-gcc -std=c11 -O2 -Wall -Wextra -I"$folder" tests/forms/caller.c "$folder/erd.lib" -o "$work/caller.exe"
     expect 'a caller for Windows' 0

@@ -31,6 +31,7 @@ of_aarch64() {
     [ "$status" -eq 0 ] || return
     equal 'it needs the C library alone' "$(readelf -d "$made/program-aarch64/erd" | sed -n 's/.*(NEEDED).*\[\(.*\)\]/\1/p' | grep -v '^ld-linux')" \
         libc.so.6
+    guarded 'erd for aarch64' "$made/program-aarch64/erd"
     tried 'erd for aarch64' program qemu-aarch64 -L /usr/aarch64-linux-gnu "$PWD/$made/program-aarch64/erd"
     # a pipe that nobody reads
     exec 3> >(true)
@@ -50,6 +51,8 @@ of_windows() {
     equal 'erd.exe needs what every Windows has' "$(x86_64-w64-mingw32-objdump -p "$made/program-windows/erd.exe" |
         sed -n 's/.*DLL Name: //p' | sort | tr '\n' ' ')" 'KERNEL32.dll msvcrt.dll '
     equal 'erd.exe has the version' "$(strings -el "$made/program-windows/erd.exe" | grep -A 1 '^ProductVersion$' | tail -n 1)" "$(cat VERSION)"
+    guarded_for_windows erd.exe "$made/program-windows/erd.exe"
+    equal 'erd.exe has a stack of 8 MiB' "$(x86_64-w64-mingw32-objdump -p "$made/program-windows/erd.exe" | sed -n 's/^SizeOfStackReserve\s*0*//p')" 800000
     begin_wine
     tried erd.exe windows wine "$PWD/$made/program-windows/erd.exe"
 }

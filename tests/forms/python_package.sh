@@ -11,6 +11,8 @@ done
 objdump() { printf '0 g DF *UND* 0 (GLIBC_%s) f\n' 2.4 2.34 2.2.5 2.17 2.9; }
 eval "$(sed -n '/^needed() {/,/^}/p' packaging/python.sh)"
 equal 'the newest version of the C library' "$(needed liberd.so.0)" 2_34
+objdump() { printf '0 g DF *UND* 0 (GLIBC_%s) f\n' 2.4 2.2.5 2.9; }
+equal 'no name of a wheel is for an older one than 2.17' "$(needed liberd.so.0)" 2_17
 unset -f objdump needed
 packaging/python.sh > "$work/wheels" || { echo "FAILED  no wheel was made"; failed=1; counts; exit; }
 wheel=$(ls out/python/*"$(uname -m)".whl)

@@ -52,13 +52,13 @@ OTHERS = {
 }
 PAGE = """# A page
 
-See [the other](OTHER.md), [a part](OTHER.md#part), [this](#top), [the web](https://a.example/b.md), [an example](../examples/a.json#x),
+See [the other](OTHER.md), [a part](OTHER.md#part), [this](#top), [the web](https://a.example/b.md), [an example](../examples/a.json#x), [more](../more/b.txt),
 [GUIDE.md](../docs/GUIDE.md#far), [`code`](../src/code.c) and ![a picture](pictures/one.png).
 """
 # What it is where OTHER.md is copied too, and examples stand beside.
 APART = """# A page
 
-See [the other](OTHER.md), [a part](OTHER.md#part), [this](#top), [the web](https://a.example/b.md), [an example](../examples/a.json#x),
+See [the other](OTHER.md), [a part](OTHER.md#part), [this](#top), [the web](https://a.example/b.md), [an example](../examples/a.json#x), [more](../more/b.txt),
 GUIDE (`docs/GUIDE.md` of the source), `code` (`src/code.c` of the source) and ![a picture](one.png).
 """
 

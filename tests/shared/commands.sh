@@ -122,6 +122,28 @@ noted() {
     equal "the words of the Expat licence in ${1##*/}" "$(sed -n '/^License: Expat$/,/^$/p' "$1/copyright" | sed '1d; $d; s/^ //; s/^\.$//')" "$(tail -n +5 LICENSE-MIT)"
 }
 
+# guarded NAME FILE: what is loaded on Linux lies anywhere, can't be written once it is linked nor run from its stack, and has no names of
+# functions but a name of its own
+guarded() {
+    local why=''
+    readelf -hW "$2" | grep -q 'Type: *DYN' || why+='it lies at one place; '
+    readelf -lW "$2" | grep -q GNU_RELRO || why+='what is linked can be written; '
+    readelf -dW "$2" | grep -q 'FLAGS.*NOW' || why+='it is linked late; '
+    readelf -lW "$2" | grep GNU_STACK | grep -q ' RW ' || why+='its stack can be run; '
+    ! readelf -SW "$2" | grep -q '\.symtab' || why+='it has names; '
+    readelf -nW "$2" | grep -q 'Build ID: [0-9a-f]\{40\}' || why+='it has no name of its own; '
+    said "$1 is guarded" "$why"
+}
+
+# guarded_for_windows NAME FILE: the same for Windows, and it tells no time
+guarded_for_windows() {
+    local found
+    found=$(x86_64-w64-mingw32-objdump -p "$2")
+    equal "$1 is guarded" "$(grep -o 'HIGH_ENTROPY_VA\|DYNAMIC_BASE\|NX_COMPAT' <<< "$found" | paste -sd ' ')" 'HIGH_ENTROPY_VA DYNAMIC_BASE NX_COMPAT'
+    equal "$1 tells no time" "$(sed -n 's/^Time\/Date\s*\(\S.*1970\).*/\1/p' <<< "$found")" 'Thu Jan  1 00:00:00 1970'
+    said "$1 has no names" "$(x86_64-w64-mingw32-objdump -t "$2" | grep -i 'erd_start\|rattle_alloc' | head -n 1)"
+}
+
 # works NAME PROGRAM EXAMPLES: the program does what it is for, on these examples
 works() {
     run "$2" check "$3/one-unit.json"
