@@ -110,11 +110,45 @@ shell() {
 }
 shell zsh zsh -n packaging/completions/_erd
 shell fish fish --no-execute packaging/completions/erd.fish
+# in_fish NAME LINE WORD ..: what fish offers for a line
+in_fish() {
+    run fish --no-config -c "source packaging/completions/erd.fish; cd '$work/files'; complete -C '$2' | cut -f 1"
+    equal "fish completes $1" "$(paste -sd ' ' "$work/out")." "${*:3}."
+}
 if command -v fish > /dev/null; then
-    run fish --no-config -c "source packaging/completions/erd.fish; complete -C 'erd c' | cut -f 1"
-    expect_text 'fish completes the subcommands' 0 $'canon\ncheck\ncompare'
-    run fish --no-config -c "source packaging/completions/erd.fish; cd '$work/files'; complete -C 'erd check r' | cut -f 1"
-    expect_text 'fish completes a file' 0 right.json
+    in_fish 'the subcommands' 'erd c' canon check compare
+    in_fish 'all first words' 'erd ' ballots canon check compare differences help prepare
+    in_fish 'the subcommands of help' 'erd help co' compare
+    in_fish 'the options of check' 'erd check --' --help --json --prefer
+    in_fish 'the options of canon' 'erd canon --' --help --prefer
+    in_fish 'the options of prepare' 'erd prepare --' --help --list --prefer --report --steps
+    in_fish 'the types of identifiers' 'erd ballots --prefer ' fips local-level national-level ocd-id other state-level
+    in_fish 'the groups of steps' 'erd prepare --steps ' filled-in removed view visible
+    in_fish 'the file of check' 'erd check r' right.json
+    in_fish 'the file after an option' 'erd prepare --steps view r' right.json
+    in_fish 'no second file of canon' 'erd canon left.json r'
+    in_fish 'the second file of compare' 'erd compare left.json r' right.json
+    in_fish 'the second file of ballots' 'erd ballots --json left.json r' right.json
+    in_fish 'no third file of differences' 'erd differences left.json right.json r'
+fi
+
+# in_zsh NAME WORD ..: what the completion for zsh asks of zsh for these words, of which the last is completed
+in_zsh() {
+    # shellcheck disable=SC2016
+    zsh -fc '_describe() { print -r -- "${(P)2}" }; _arguments() { print -rl -- "$@" }; words=("$@"); CURRENT=$#words; . packaging/completions/_erd
+    ' zsh "${@:2:$# - 2}" 2>&1 | sed 's/:tell.*help:write the help of a subcommand/ ../; s/\[[^]]*\]//; s/:\(type\|steps\):.*/:\1/' | paste -sd ' ' > "$work/out"
+    equal "zsh completes $1" "$(cat "$work/out")." "${*: -1}."
+}
+if command -v zsh > /dev/null; then
+    in_zsh 'the subcommands' erd '' 'check .. --help'
+    in_zsh 'the subcommands of help' erd help '' 'check ..'
+    in_zsh 'nothing after help of a subcommand' erd help check '' ''
+    in_zsh check erd check '' '--json --prefer=:type --help :report:_files'
+    in_zsh canon erd canon '' '--prefer=:type --help :report:_files'
+    in_zsh prepare erd prepare '' '--list --report --steps=:steps --prefer=:type --help :report:_files'
+    in_zsh ballots erd ballots '' '--json --prefer=:type --help :report:_files ::right report:_files'
+    in_zsh compare erd compare left.json '' '--json --prefer=:type --help :left report:_files :right report:_files'
+    in_zsh differences erd differences '' '--json --prefer=:type --help :left report:_files :right report:_files'
 fi
 
 counts

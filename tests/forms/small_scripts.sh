@@ -134,6 +134,26 @@ fresh packaging/portable/make.sh
 expect 'without the module there is no form' 1
 notes 'and none is begun' 'module.sh '
 
+# The profile anew: of the program and of the library, on each report, and of nothing else.
+fake "$KIT/toolchain/bin/clang" 'echo 99.1.2'
+fake "$tree/packaging/compile.sh" 'mkdir -p crates/{$1,erd_c}/out/flagged; install counting crates/$1/out/flagged/$1; echo code > crates/erd_c/out/flagged/liberd_c.a'
+fake "$tree/counting" 'exec > /dev/null; for word; do [ ! -e "$word" ] || from=$word; done; exit "$(grep -c "\"VotesAllowed\":1.5\\|\"PartyId\":\"nobody\"" "$from")"'
+fake "$tree/packaging/profile/runtime.sh" 'echo runtime.a'
+fake "$tree/packaging/static_library.sh" 'cp "$1" "$2"'
+fake "$tools/cc" 'while [ $# -gt 0 ]; do [ "$1" != -o ] || install counting "$2"; shift; done'
+fake "$tools/llvm-profdata-99" 'while [ $# -gt 0 ]; do [ "$1" != -o ] || echo new > "$2"; shift; done'
+mkdir -p "$tree/tests/reports" "$tree/conformance/cases/bases"
+printf '%s\n' 'print("{\"PartyId\": \"party-1\", \"VotesAllowed\": 1}")' | tee "$tree/tests/reports/county.py" > "$tree/tests/reports/larger.py"
+cp -r examples "$tree"
+echo '{}' > "$tree/conformance/cases/bases/one.json"
+fresh packaging/profile/make.sh
+expect 'the profile is made anew' 0
+equal 'what is compiled with counts' "$(grep '^compile\|^static\|^runtime' "$asked" | sed 's| /[^ ]*| HERE|' | paste -sd ';')" \
+    'compile.sh erd -fprofile-generate;compile.sh erd_c -fprofile-generate;static_library.sh crates/erd_c/out/flagged/liberd_c.a HERE;runtime.sh HERE'
+equal 'what the program and the library are asked' "$(grep '^erd \|^library ' "$asked" | cut -d ' ' -f 1,2 | LC_ALL=C sort | uniq -c | sed 's/^ *//' | paste -sd ';')" \
+    '11 erd canon;13 erd check;5 erd compare;10 library canon;12 library check-data;5 library compare-data'
+equal 'the profile is the new one' "$(head -c 100 "$tree/packaging/profile/erd.proftext")" new
+
 # A release, of scripts that make its files: each is asked, in an order in which each finds what it needs.
 made() {
     fake "$tree/packaging/$1.sh" "for file in ${*:2}; do echo \"\$0 \$*\" > out/\$file; done"
