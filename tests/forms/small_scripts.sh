@@ -76,12 +76,12 @@ for zone in Pacific/Kiritimati Pacific/Pago_Pago; do
     expect_text "the version, its day and its second, in $zone" 0 \
         "$(cat VERSION) $(sed -n "s/^## $(cat VERSION) - //p" CHANGELOG.md) $(date -d "$(sed -n "s/^## $(cat VERSION) - //p" CHANGELOG.md) 00:00 UTC" +%s) 0022"
 done
-echo 98.7.6 > "$tree/VERSION"
+echo 97.6.5 > "$tree/VERSION"
 for script in source tarball deb 'library_deb amd64' library_archives python conformance release portable/javascript portable/windows; do
     # shellcheck disable=SC2086
     fresh packaging/${script%% *}.sh ${script#"${script%% *}"}
     expect "a version that the changelog has not: ${script%% *}.sh" 1
-    tells "what ${script%% *}.sh says" "CHANGELOG.md has no heading '## 98.7.6 - DATE'"
+    tells "what ${script%% *}.sh says" "CHANGELOG.md has no heading '## 97.6.5 - DATE'"
 done
 cp VERSION "$tree"
 

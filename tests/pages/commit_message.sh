@@ -61,10 +61,22 @@ recorded() {
     expect "recorded: $1" "$2"
 }
 tree=$(git -C "$work/clone" rev-parse 'HEAD^{tree}')
-recorded 'a gate that failed' 1 "$tree 8510 passed, 1 failed"
-recorded 'a gate that says more' 1 "$tree 8511 passed, 0 failed, 1 lost"
-recorded 'a gate of something else' 1 "${tree//[a-f]/0} 8511 passed, 0 failed"
+# unrecorded NAME COUNTS WORDS: there is no commit, and it is said why
+unrecorded() {
+    recorded "$1" 1 "$2"
+    equal "it is said: $1" "$(cat "$work/err")" "record_gate: $3"
+    equal "there is no commit: $1" "$(git -C "$work/clone" rev-parse HEAD)" "$last"
+}
+last=$(git -C "$work/clone" rev-parse HEAD)
+unrecorded 'a gate that failed' "$tree 8510 passed, 1 failed" 'the last gate here says: 8510 passed, 1 failed'
+unrecorded 'a gate that says more' "$tree 8511 passed, 0 failed, 1 lost" 'the last gate here says: 8511 passed, 0 failed, 1 lost'
+unrecorded 'a gate of something else' "${tree//[a-f]/0} 8511 passed, 0 failed" 'the last gate here ran on something else'
+echo more >> "$work/clone/packaging/record_gate.sh"
+git -C "$work/clone" add packaging
 recorded 'a gate that passed' 0 "$tree 8511 passed, 0 failed"
+equal 'which commit that is' "$(cat "$work/out")" "$(git -C "$work/clone" log -1 --format=%h) Record a gate that passed"
+equal 'its body' "$(git -C "$work/clone" log -1 --format=%b | head -n 1)" 'All of `make test` passed on what stands in this commit.'
+git -C "$work/clone" reset -q --hard
 equal 'its tree' "$(git -C "$work/clone" rev-parse 'HEAD^{tree}')" "$tree"
 run env -C "$work/clone" sh -c "$(of_page log)"
 equal 'the commit that was recorded' "$(head -n 1 "$work/out" | cut -d ' ' -f 3-)" 'Record a gate that passed'
@@ -72,6 +84,7 @@ equal 'its trailer' "$(git -C "$work/clone" log -1 --format='%(trailers:key=Gate
 rm "$work/clone/out/gate-counts"
 run "$work/clone/packaging/record_gate.sh"
 expect 'recorded: no gate' 1
+equal 'what is said where there is none' "$(cat "$work/err")" 'record_gate: no gate has ended here, or it ran on what was not committed'
 
 mkdir "$work/words"
 printf '#!/bin/sh\n[ "$*" = "-s try FILE=%s COMMAND=check" ] && cat answer\n' "$HOME/report.json" > "$work/words/make"

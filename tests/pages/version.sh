@@ -32,12 +32,20 @@ done
 said 'the files have it as it is written' "$why"
 run "$work/copy/packaging/new_version.sh" $new
 expect 'a version that the changelog has not' 1
+equal 'what is said of it' "$(cat "$work/err")" "new_version: CHANGELOG.md has no heading '## $new - DAY'"
+equal 'the files stay' "$(cd "$work/copy" && with "$version")" "$have"
 sed -i "s/^## Unreleased\$/&\\n\\n## $new - 2031-02-03/" "$work/copy/CHANGELOG.md"
 run "$work/copy/packaging/new_version.sh" $new
 expect 'a new version' 0
 equal 'the files that have the new version' "$(cd "$work/copy" && with $new)" "$have"
 equal 'the files that have the old version' "$(cd "$work/copy" && with "$version") none" ' none'
 equal 'the manual page' "$(grep '^\.TH ' "$work/copy/docs/erd.1")" .TH\ ERD\ 1\ 2031-02-03\ \"erd\ "$new"\"\ \"User\ Commands\"
-run "$work/copy/packaging/new_version.sh" 98.7
-expect 'what is no version' 1
+for word in 98.7 98.7.6.5 v98.7.6 98.7.6-1; do
+    run "$work/copy/packaging/new_version.sh" $word
+    expect "what is no version: $word" 1
+    equal "it is said: $word" "$(cat "$work/err")" "new_version: $word is no version of the form MAJOR.MINOR.PATCH"
+done
+sed -i "s/^## $new - /## ${new//./x} - /" "$work/copy/CHANGELOG.md"
+run "$work/copy/packaging/new_version.sh" $new
+expect 'a heading that is another one' 1
 counts
