@@ -40,8 +40,8 @@ expect 'a new version' 0
 equal 'the files that have the new version' "$(cd "$work/copy" && with $new)" "$have"
 equal 'the files that have the old version' "$(cd "$work/copy" && with "$version") none" ' none'
 equal 'the manual page' "$(grep '^\.TH ' "$work/copy/docs/erd.1")" .TH\ ERD\ 1\ 2031-02-03\ \"erd\ "$new"\"\ \"User\ Commands\"
-for word in 98.7 98.7.6.5 v98.7.6 98.7.6-1; do
-    run "$work/copy/packaging/new_version.sh" $word
+for word in 98.7 "$new.5" "v$new" "$new-1"; do
+    run "$work/copy/packaging/new_version.sh" "$word"
     expect "what is no version: $word" 1
     equal "it is said: $word" "$(cat "$work/err")" "new_version: $word is no version of the form MAJOR.MINOR.PATCH"
 done
