@@ -100,11 +100,30 @@ def in_browser(pages):
                 browser.until(said)
                 first = browser.script('return document.querySelector("#found a")?.getAttribute("href")')
                 yield f'the search for {words}', '' if first and first.split('#')[0] == wanted else str(first)
-            browser.open((SITE / 'search.html').as_uri() + '?words=zzzyyyxxx')
-            count = browser.until(said)
-            yield 'the search for what is nowhere', '' if count == 'Nothing has all of these words.' else count
+            yield from searched(browser, said)
         finally:
             browser.close()
+
+
+def searched(browser, said):
+    """What the search says of what it has found: how many sections, the first 50 of them, and the words marked in each."""
+    def found(words):
+        browser.open((SITE / 'search.html').as_uri() + '?words=' + urllib.parse.quote(words))
+        browser.until('return document.querySelector("#found") && typeof search === "function"')
+        return browser.script('return [document.querySelector("#count").textContent, document.querySelectorAll("#found li").length, '
+                              '[...document.querySelectorAll("#found mark")].map((mark) => mark.textContent.toLowerCase())]')
+
+    count, rows, marks = found('minisign')
+    yield from compared(('few sections are found', True, 0 < rows < 50), ('how many they are', f'{rows} sections:', count),
+                        ('what is marked in them', {'minisign'}, set(marks)))
+    count, rows, marks = found('Does the RAM grow?')
+    yield from compared(('another word for it is found, and marked', True, rows > 0 and 'memory' in marks and set(marks) <= {'ram', 'memory', 'grow'}))
+    count, rows, _ = found('report')
+    yield from compared(('the first of many sections', [50, True], [rows, re.fullmatch('[0-9]{2,} sections, of which the first 50 stand here:', count) is not None]))
+    yield from compared(('words that say nothing are asked for where there are no others', True, found('the')[1] > 0))
+    yield from compared(('no words', ['', 0, []], found(' ')), ('words that are nowhere', ['Nothing has all of these words.', 0, []], found('minisign zzzyyyxxx')))
+    browser.script('const box = document.querySelector("input"); box.value = "minisign"; box.dispatchEvent(new Event("input"))')
+    yield from compared(('words that are typed', True, browser.script(said).endswith(' sections:')))
 
 
 def small_site():
@@ -119,15 +138,15 @@ def small_site():
         site = top / 'out' / 'site'
         told = (ran.returncode, ran.stdout, ran.stderr)
         yield from compared(
-            ('what is told', (0, 'out/site: 6 pages\n', 'site: there is no out/release/SHA256SUMS\nsite: there is no out/release/erd-1.2.3.spdx.json\n'), told),
-            ('its files', ['CHANGELOG.html', 'contents.html', 'docs/GUIDE.html', 'docs/OTHER.html', 'erd-1.2.3-conformance.tar.gz', 'erd.html', 'examples/README.html',
+            ('a small site: what is told', (0, 'out/site: 6 pages\n', 'site: there is no out/release/SHA256SUMS\nsite: there is no out/release/erd-1.2.3.spdx.json\n'), told),
+            ('the files of a small site', ['CHANGELOG.html', 'contents.html', 'docs/GUIDE.html', 'docs/OTHER.html', 'erd-1.2.3-conformance.tar.gz', 'erd.html', 'examples/README.html',
                            'examples/a.json', 'index.html', 'search.html', 'search.js', 'sections.js', 'style.css', 'web/fixes.es.html'],
              sorted(str(path.relative_to(site)) for path in site.rglob('*') if path.is_file())))
         if ran.returncode == 0:
             yield from small_pages({str(path.relative_to(site)): path.read_text(encoding='utf-8') for path in site.rglob('*') if path.is_file()})
         (top / 'docs' / 'OTHER.md').write_text('[nowhere](nowhere.md)')
         ran = subprocess.run([sys.executable, top / 'packaging' / 'site.py'], capture_output=True, text=True)
-        yield from compared(('a link that leads nowhere', 'FileNotFoundError: docs/OTHER.md: nowhere.md', ran.stderr.strip().split('\n')[-1]),
+        yield from compared(('a small site: a link that leads nowhere', 'FileNotFoundError: docs/OTHER.md: nowhere.md', ran.stderr.strip().split('\n')[-1]),
                             ('the site of before stays', True, (site / 'index.html').exists()))
 
 
@@ -140,7 +159,7 @@ def small_pages(read):
     contents = guide.split('aria-label="On this page"')[1].split('</nav>')[0]
     sections = json.loads(read['sections.js'].removeprefix('const sections = ').rstrip(';\n'))
     yield from compared(
-        ('its links', [('docs/GUIDE.html#one', 'the guide'), ('examples/a.json', 'a file'), ('examples/README.html', 'a folder'), ('index.html', 'another')], links),
+        ('a small site: its links', [('docs/GUIDE.html#one', 'the guide'), ('examples/a.json', 'a file'), ('examples/README.html', 'a folder'), ('index.html', 'another')], links),
         ('the page of all files and pages', [
             ('erd.html', 'erd.html', 'the page that checks and compares files in a browser'),
             ('erd-1.2.3-conformance.tar.gz', 'erd-1.2.3-conformance.tar.gz', 'the conformance suite, a folder for each case'),
@@ -175,7 +194,7 @@ HAVE_FOOT = ('index.html', 'docs/GUIDE.html', 'contents.html', 'search.html')
 def compared(*rows):
     """Cases of what is wanted and what is found."""
     for name, wanted, found in rows:
-        yield f'a small site: {name}', '' if wanted == found else f'{found} is there, and not {wanted}'
+        yield name, '' if wanted == found else f'{found} is there, and not {wanted}'
 
 
 def cases():
