@@ -77,6 +77,7 @@ module() {
 @table = private constant [1 x ptr] [ptr @"in table"]
 define void @fast(ptr %0) #0 {
   call void @shared()
+  call void @next()
 }
 define void @slow()$1 #1 {
   call void @own()
@@ -84,6 +85,11 @@ define void @slow()$1 #1 {
   load ptr, ptr @table
 }
 define internal void @shared() #0 {
+  call void @own.2()
+}
+define internal void @own.2() {
+}
+define internal void @next() #0 {
 }
 define internal void @own()$1 {
 }
