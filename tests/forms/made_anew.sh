@@ -65,6 +65,7 @@ fake "$KIT/bin/rattle" 'what=$1; source=$2; while [ $# -gt 0 ]; do
     case $1 in -o) to=$2 ;; --toolchain) toolchain=$2 ;; --crate-checked) checked=$2 ;; esac; shift
 done
 ! grep -q wrong "$source" || { echo "error: a goal is open"; exit 1; }
+sleep "${SLOW:-0}"
 case $what in
 check) mkdir -p "$to" && cp "$source" "$to/of" ;;
 build)
@@ -112,6 +113,19 @@ compiled erd
 notes 'a verdict of before does not serve it' 'rattle check'
 echo 'erd two' > "$tree/crates/erd/src/main.rt"
 compiled erd
+# at_once COMMAND ..: runs it twice beside each other
+at_once() {
+    : > "$asked"
+    for try in 1 2; do
+        env -C "$tree" -u PROFILE PATH="$tools:$PATH" SLOW=0.3 "$@" > "$work/out.$try" 2>&1 &
+    done
+    wait
+}
+echo 'erd three' > "$tree/crates/erd/src/main.rt"
+at_once packaging/compile.sh erd
+equal 'of two calls at once the second takes the verdict of the first' "$(grep -c '^rattle check' "$asked")" 1
+echo 'erd two' > "$tree/crates/erd/src/main.rt"
+compiled erd
 compiled erd_c
 notes 'the library for C is linked with nothing' 'rattle check;rattle build;clang'
 equal 'its code' "$(cat "$tree/crates/erd_c/out/liberd_c.a")" 'erd_c one'
@@ -143,7 +157,7 @@ tells 'the last words of that' "$(seq 11 30)"
 
 # The file of a release, with the profile.
 fake "$tree/packaging/profile/flags.sh" 'echo -fprofile'
-fake "$tree/packaging/compile.sh" 'mkdir -p "crates/$1/out/flagged"; cd "crates/$1/out/flagged" || exit; echo "$*" | tee erd liberd_c.a; seq 40
+fake "$tree/packaging/compile.sh" 'sleep "${SLOW:-0}"; mkdir -p "crates/$1/out/flagged"; cd "crates/$1/out/flagged" || exit; echo "$*" | tee erd liberd_c.a; seq 40
 printf "%s\n" "warning: one [-Wbackend-plugin]" "warning: two [-Wbackend-plugin]" "warning: three [-Wother]" > warnings; exit "${ENDED:-0}"'
 echo plain > "$tree/erd"
 mkdir -p "$tree/out/c"
@@ -166,6 +180,9 @@ for row in 'erd erd erd' 'liberd.a erd_c out/c/liberd.a'; do
     expect_text "$name without the profile" 0 "$plain"
     tells "it is said of $name" "$plain is handed on as it is: PROFILE=no, so it is compiled without a profile"
 done
+echo more >> "$tree/erd"
+at_once packaging/profiled.sh erd
+equal 'two calls at once make it once' "$(grep -c '^compile' "$asked")" 1
 echo more >> "$tree/erd"
 fresh env -u PROFILE ENDED=1 packaging/profiled.sh erd
 expect 'a file that is not compiled with the profile' 1

@@ -85,6 +85,23 @@ for script in source tarball deb 'library_deb amd64' library_archives python con
 done
 cp VERSION "$tree"
 
+# The source where git is not: what is not made. And the conformance suite, with the licences.
+mkdir -p "$work/plain"/{out,crates/low/{src,out},bindings/js/node_modules,tests/__pycache__} "$work/plain/conformance"
+cp -r "$tree"/{packaging,VERSION,CHANGELOG.md} LICENSE-MIT LICENSE-APACHE "$work/plain"
+touch "$work/plain"/{out/old,crates/low/src/lib.rt,crates/low/out/made,bindings/js/node_modules/other,tests/__pycache__/made,tests/out}
+fake "$work/plain/conformance/make" 'mkdir "$1" && touch "$1/run"'
+run "$work/plain/packaging/source.sh"
+v=$(cat VERSION)
+expect_text 'the source without git' 0 "out/erd-$v-source.tar.gz"
+equal 'what it has' "$(tar --list --gzip --file "$work/plain/out/erd-$v-source.tar.gz" | grep -v '/$\|/packaging/' | paste -sd ' ' | sed "s|erd-$v-source|TOP|g")" \
+    'TOP/CHANGELOG.md TOP/LICENSE-APACHE TOP/LICENSE-MIT TOP/VERSION TOP/conformance/make TOP/crates/low/src/lib.rt TOP/tests/out'
+run "$work/plain/packaging/conformance.sh"
+expect_text 'the conformance suite' 0 "out/erd-$v-conformance.tar.gz"
+equal 'its files' "$(tar --list --gzip --file "$work/plain/out/erd-$v-conformance.tar.gz" | paste -sd ' ' | sed "s|erd-$v-conformance|TOP|g")" \
+    'TOP/ TOP/LICENSE-APACHE TOP/LICENSE-MIT TOP/run'
+equal 'the day and the owner of each' "$(tar --list --verbose --numeric-owner --full-time --utc --gzip --file "$work/plain/out/erd-$v-conformance.tar.gz" |
+    awk '{ print $2, $4, $5 }' | sort -u)" "0/0 $(sed -n "s/^## $v - //p" CHANGELOG.md) 00:00:00"
+
 # Words that name nothing of ours.
 fake "$tools/rt" 'echo "$KIT/page.html"'
 fake "$tree/packaging/portable/module.sh"
@@ -158,7 +175,6 @@ equal 'the profile is the new one' "$(head -c 100 "$tree/packaging/profile/erd.p
 made() {
     fake "$tree/packaging/$1.sh" "for file in ${*:2}; do echo \"\$0 \$*\" > out/\$file; done"
 }
-v=$(cat VERSION)
 mkdir -p "$tree"/out/{portable,python,release}
 made source "erd-$v-source.tar.gz"
 made conformance "erd-$v-conformance.tar.gz"
