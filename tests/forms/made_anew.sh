@@ -328,55 +328,11 @@ for row in 'erd.dll 2' 'erd.exe 1'; do
     read -r file type <<< "$row"
     # shellcheck disable=SC2016
     fresh bash -c '. packaging/portable/common.sh; resource "$1" out/rc' form.sh "$file"
-    equal "what Windows tells of $file" "$(grep -o '@.*@\|^F.*ION .*\|^P.*ION .*\|^FILETYPE.*\|"FileV.*\|"Orig.*\|"ProductV.*' "$tree/out/rc" | paste -sd ';')" \
-        "FILEVERSION $numbers;PRODUCTVERSION $numbers;FILETYPE $type;\"FileVersion\", \"$(cat VERSION)\";\"OriginalFilename\", \"$file\";\"ProductVersion\", \"$(cat VERSION)\""
+    equal "what Windows tells of $file" "$(grep -o '@.*@\|^F.*ION .*\|^P.*ION .*\|^FILETYPE.*\|"\(File\|Orig\|Product\).*' "$tree/out/rc" | paste -sd ';')" \
+        "FILEVERSION $numbers;PRODUCTVERSION $numbers;FILETYPE $type;\"FileDescription\", \"erd: check, canonical form and comparison of ballot definitions\";\
+\"FileVersion\", \"$(cat VERSION)\";\"OriginalFilename\", \"$file\";\"ProductName\", \"erd\";\"ProductVersion\", \"$(cat VERSION)\""
 done
 
-# make erd: each crate after those that it stands on, and what of it is told.
-cat > "$tree/CONTRIBUTING.md" << 'END'
-| `low` | 600 |
-| `mid` | 1200 |
-| `erd` | 4200 |
-| `erd_c` | 9000 |
-END
-fake "$tree/packaging/room.sh"
-fake "$tools/nproc" 'echo "$PROCESSORS"'
-fake "$tools/rt" 'crate=$(basename "$PWD"); echo "rt $* in $crate" >> "$ASKED"; { echo "logic=proved functions=3 more"; [ "$crate" != "${OPEN:-}" ] ||
-{ echo "src/lib.rt:1: error: open"; echo "a goal is not proved"; seq 20; exit 1; }; echo "$crate" > "out/$crate"; } >&2'
-touch "$tree/crates/erd/stdin"
-mkdir -p "$tree"/crates/{low,mid,erd}/out
-# built WANTED VARIABLE ..: how long it says that it takes
-built() {
-    fresh env "PROCESSORS=$2" "${@:3}" packaging/build.sh
-    sed -i '/^rt [a-z]*$/d; /^nproc/d' "$asked"
-    sed -i 's/ in [0-9]*:[0-9][0-9] min/ in a time/' "$work/out"
-    equal "how long it takes: $*" "$(head -n 1 "$work/out" | cut -d . -f 1)" "About $1"
-}
-built '51 minutes on 4 processors' 4
-expect 'make erd' 0
-equal 'what is asked of rt' "$(grep -o 'rt .* in .*' "$asked" | paste -sd ';')" 'rt lib in low;rt lib in mid;rt run in erd'
-equal 'what is told' "$(tail -n 6 "$work/out")" 'low: crate 1 of 3
-low: 3 functions proved in a time
-mid: crate 2 of 3
-mid: 3 functions proved in a time
-erd: crate 3 of 3
-erd: 3 functions proved in a time'
-equal 'the program is that which was built' "$(cat "$tree/erd")" erd
-built '68 minutes on 2 processors' 2 CPU_LEVEL=x86-64
-equal 'another processor is asked for' "$(grep -o 'rt run.* in .*' "$asked")" 'rt run --cpu x86-64 in erd'
-mkdir "$tree/crates/erd/out/incremental"
-built '31 minutes on 1 processors' 1
-equal 'what is kept is not counted' "$(head -n 1 "$work/out" | cut -d . -f 2-)" \
-    ' The proofs of 1 of 3 crates are kept; of these, what has changed is proved again.'
-echo before > "$tree/erd"
-built '31 minutes on 1 processors' 1 OPEN=mid
-expect 'a crate that is not proved' 1
-equal 'it ends there' "$(tail -n 4 "$work/out" | sed 's/after .*/after a time/')" "mid: not built after a time
-src/lib.rt:1: error: open
-a goal is not proved
-The whole log: $tree/out/build.log"
-equal 'the log has all of it, and nothing of before' "$(wc -l < "$tree/out/build.log")" 24
-equal 'the program of before stays' "$(cat "$tree/erd")" before
 fake "$tools/rt" 'echo "$KIT/page.html"'
 
 # What is missing is named with its package.

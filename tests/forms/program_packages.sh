@@ -41,7 +41,7 @@ equal 'the name of the package' "$(field Package)" erd
 equal 'the version of the package' "$(field Version)" "$version-1"
 equal 'for which machine it is' "$(field Architecture) $(field Section) $(field Priority)" "$(dpkg --print-architecture) utils optional"
 equal 'what else is of use' "$(field Suggests)" 'bubblewrap, python3, www-browser'
-described 'the package' "out/$package"
+described 'the package' "out/$package" ''
 linked=$(ldd "$program" | sed -n 's/.* => \(\/[^ ]*\) .*/\1/p')
 why=''
 for library in $linked; do

@@ -136,12 +136,12 @@ printf 'Source: over\n\nPackage: over\nArchitecture: any\n' > "$work/over/debian
 run env -C "$work/over" dpkg-shlibdeps -O -S"$work/liberd0" "$work/shared"
 equal 'what a package with this program needs' "$(grep -o 'liberd0 [^,]*' "$work/out")" "liberd0 (>= $version)"
 equal 'what liberd-dev needs' "$(dpkg-deb --field "$release/liberd-dev_$version-1_amd64.deb" Depends)" "liberd0 (= $version-1)"
-for row in 'liberd0 amd64 libs' 'liberd0 arm64 libs' 'liberd-dev amd64 libdevel' 'liberd-dev arm64 libdevel'; do
-    read -r package architecture section <<< "$row"
+for row in 'liberd0 amd64 libs library' 'liberd0 arm64 libs library' 'liberd-dev amd64 libdevel headers' 'liberd-dev arm64 libdevel headers'; do
+    read -r package architecture section kind <<< "$row"
     file=$release/${package}_$version-1_$architecture.deb
     equal "what $package for $architecture is" "$(dpkg-deb --show --showformat '${Package} ${source:Package} ${Version} ${Architecture} ${Multi-Arch} ${Section}' "$file")" \
         "$package erd $version-1 $architecture same $section"
-    described "$package for $architecture" "$file"
+    described "$package for $architecture" "$file" " - $kind"
 done
 dpkg-deb --control "$release/liberd0_$version-1_amd64.deb" "$work/control"
 equal 'what dpkg does after liberd0' "$(cat "$work/control/triggers")" 'activate-noawait ldconfig'

@@ -118,7 +118,8 @@ def bill(top):
     yield 'nothing else is told', len(FILES) + 2, sum(kind != 'STATIC_LINK' for _, kind, _ in found)
     yield 'its day', '1970-01-02T00:00:00Z', document['creationInfo']['created']
     yield 'its name', 'erd-1.2.3', document['name']
-    yield 'whose it is', ['Organization: The maintainers of erd'] * 2, [document['packages'][0].get('supplier'), document['creationInfo']['creators'][0]]
+    whose = 'Organization: The maintainers of erd'
+    yield 'whose it is', [whose, whose, 'Tool: packaging/bill_of_materials.py'], [document['packages'][0].get('supplier'), *document['creationInfo']['creators']]
     yield 'the licence that SPDX has not', ['LicenseRef-mingw-w64-public-domain'], [one['licenseId'] for one in document['hasExtractedLicensingInfos']]
     yield 'a library without a licence', 'A library of the kit, whose files name no licence.', comment_of(document, 'six')
     yield 'a library with one', 'A library of the kit.', comment_of(document, 'one')

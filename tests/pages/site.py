@@ -74,6 +74,14 @@ def parts_that_lack(pages):
         yield f'what {path.relative_to(SITE)} lacks', ', '.join(lacking)
 
 
+def navigation():
+    """All pages for readers are in the navigation: those of these folders."""
+    wanted = {str(path.relative_to(ROOT).with_suffix('.html')) for pattern in ('*.md', 'docs/*.md', 'web/*.md', 'bindings/*/README.md', '*/README.md')
+              for path in ROOT.glob(pattern) if not path.is_relative_to(ROOT / 'out')}
+    found = re.findall('<li><a href="([^"]*)"', (SITE / 'index.html').read_text(encoding='utf-8').split('<nav id="pages"')[1].split('<h2>Files')[0])
+    yield from compared(('the pages in the navigation', sorted(wanted - {'README.html'} | {'index.html'}), sorted(found)))
+
+
 def in_browser(pages):
     """What Chromium says of the pages at the width of a phone, and what the search finds."""
     import browsers
@@ -122,6 +130,9 @@ def searched(browser, said):
     yield from compared(('the first of many sections', [50, True], [rows, re.fullmatch('[0-9]{2,} sections, of which the first 50 stand here:', count) is not None]))
     yield from compared(('words that say nothing are asked for where there are no others', True, found('the')[1] > 0))
     yield from compared(('no words', ['', 0, []], found(' ')), ('words that are nowhere', ['Nothing has all of these words.', 0, []], found('minisign zzzyyyxxx')))
+    yield from compared(('what people ask, whose other words are nowhere', [], browser.script(
+        'return Object.entries(ALSO).filter(([, words]) => !words.every((word) => sections.some(({ heading, text }) => '
+        '(heading + " " + text).toLowerCase().includes(word)))).map(([word]) => word)')))
     browser.script('const box = document.querySelector("input"); box.value = "minisign"; box.dispatchEvent(new Event("input"))')
     yield from compared(('words that are typed', True, browser.script(said).endswith(' sections:')))
 
@@ -203,7 +214,7 @@ def cases():
     yield 'the site is made', '' if ran.returncode == 0 else ran.stderr
     if ran.returncode == 0:
         pages = sorted(path for path in SITE.rglob('*.html') if path.name != 'erd.html')
-        yield from (*links_that_fail(pages), *parts_that_lack(pages), *in_browser(pages))
+        yield from (*links_that_fail(pages), *parts_that_lack(pages), *navigation(), *in_browser(pages))
 
 
 def main():

@@ -96,11 +96,12 @@ version_told() {
     gzip -dc "$1/changelog.Debian.gz" | sed -n '1s/^\(.*\) (\(.*\)) .*/\1 \2/p; s/^  \* Version \([0-9.]*[0-9]\)\. .*/\1/p' | paste -sd ' '
 }
 
-# described NAME PACKAGE: a package says who hands it on, how large it is, within a tenth, and the sums of its files
+# described NAME PACKAGE [WORDS]: a package says what it is for, with these words at the end, who hands it on, how large it is, within a tenth, and the sums of its files
 described() {
     local folder=$work/described size sum
     rm -rf "$folder"
     dpkg-deb --raw-extract "$2" "$folder"
+    equal "what $1 is for" "$(dpkg-deb --field "$2" Description | head -n 1)" "canonical form, check and comparison of ballot definitions$3"
     equal "who hands on $1" "$(dpkg-deb --field "$2" Maintainer)" 'The maintainers of erd <maintainers@users.noreply.hovigyal.example>'
     size=$(find "$folder/usr" -type f -printf '%s\n' | awk '{ sum += $1 } END { print int(sum / 1024) }')
     sum=$(dpkg-deb --field "$2" Installed-Size)
