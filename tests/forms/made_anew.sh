@@ -269,6 +269,8 @@ define noundef i32 @erd_start() #0 {
   call i32 @'"$open"'(ptr %1) @'"$pick"'(
 define internal i32 @main_for_x86() #0 {
   call i32 @erd_start()'
+    equal "what picks bytes there: $machine" "$(tail -n 1 "${part}_proved.ll")" "$([ "$machine" = windows ] && tail -n 1 "$tree/crates/erd/out/module.bc" |
+        sed 's/ "frame-pointer"="all"/ "machine"="any"/' || tail -n 1 packaging/portable/pick_bytes/aarch64.ll)"
     same_bytes "and it has its heap: $machine" "${part}_heap.o" "$tree/packaging/portable/heap.c"
     of=out/portable/parts/program_${machine}_plain
     equal "what is linked: $machine" "$(grep -c "gcc -s ${of}_proved.o ${of}_heap.o ${of}_main.o " "$asked")" 1

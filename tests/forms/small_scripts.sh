@@ -207,7 +207,7 @@ fake "$tools/rt" 'echo "$KIT/page.html"'
 # The profile anew: of the program and of the library, on each report, and of nothing else.
 fake "$KIT/toolchain/bin/clang" 'echo 99.1.2'
 fake "$tree/packaging/compile.sh" 'mkdir -p crates/{$1,erd_c}/out/flagged; install counting crates/$1/out/flagged/$1; echo code > crates/erd_c/out/flagged/liberd_c.a'
-fake "$tree/counting" 'exec > /dev/null; for word; do [ ! -e "$word" ] || from=$word; done; exit "$(grep -c "\"VotesAllowed\":1.5\\|\"PartyId\":\"nobody\"" "$from")"'
+fake "$tree/counting" 'exec > /dev/null; touch "${LLVM_PROFILE_FILE%/*}/$(basename "$0").profraw"; for word; do [ ! -e "$word" ] || from=$word; done; exit "$(grep -c "\"VotesAllowed\":1.5\\|\"PartyId\":\"nobody\"" "$from")"'
 fake "$tree/packaging/profile/runtime.sh" 'echo runtime.a'
 fake "$tree/packaging/static_library.sh" 'cp "$1" "$2"'
 fake "$tools/cc" 'while [ $# -gt 0 ]; do [ "$1" != -o ] || install counting "$2"; shift; done'
@@ -222,7 +222,23 @@ equal 'what is compiled with counts' "$(grep '^compile\|^static\|^runtime' "$ask
     'compile.sh erd -fprofile-generate;compile.sh erd_c -fprofile-generate;static_library.sh crates/erd_c/out/flagged/liberd_c.a HERE;runtime.sh HERE'
 equal 'what the program and the library are asked' "$(grep '^erd \|^library ' "$asked" | cut -d ' ' -f 1,2 | LC_ALL=C sort | uniq -c | sed 's/^ *//' | paste -sd ';')" \
     '11 erd canon;13 erd check;5 erd compare;10 library canon;12 library check-data;5 library compare-data'
+equal 'the counts of both are taken together' "$(grep ' merge ' "$asked" | sed "s| [^ ]*/| |g" | paste -sd ';')" \
+    'llvm-profdata-99 merge erd.profraw library.profraw -o erd.profdata;llvm-profdata-99 merge -text erd.profdata -o erd.proftext'
 equal 'the profile is the new one' "$(head -c 100 "$tree/packaging/profile/erd.proftext")" new
+
+# The program that is packed, with the page, and where it goes.
+fake "$tree/packaging/profiled.sh" 'echo "the/$1"'
+fake "$tree/packaging/page.sh" 'echo the/page'
+fake "$tools/make" 'exit 9'
+for row in "tarball.sh $(uname -m) / the/erd" 'tarball.sh aarch64 / out/portable/program-aarch64/erd' 'deb.sh amd64 /usr the/erd'; do
+    read -r script processor prefix program <<< "$row"
+    [[ $script = deb.sh || $processor = "$(uname -m)" ]] && set -- || set -- "$processor"
+    fresh "packaging/$script" "$@"
+    expect "$script $* where nothing can be installed" 9
+    equal "$script $*: what is asked" "$(grep -v '^rt' "$asked" | sed 's| DESTDIR=/\S*||' | tail -n 2 | paste -sd ';')" \
+        "page.sh ;make --no-print-directory -s install PREFIX=$prefix PROGRAM=$program"
+done
+rm "$tools/make"
 
 # A release, of scripts that make its files: each is asked, in an order in which each finds what it needs.
 made() {
