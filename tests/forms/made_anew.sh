@@ -11,8 +11,9 @@ cp tests/shared/counting.sh "$tree/tests/shared"
 cp -r bindings/c "$tree/bindings"
 
 # What a compiler is given becomes what it makes.
-handed_on=('while [ $# -gt 0 ]; do case $1 in -o | -l) to=$2; shift ;; -dumpversion) echo 99.1.2; exit ;; -*) ;; *) [ ! -f "$1" ] || from=$1 ;; esac; shift; done'
-    'cat "$from" > "$to"')
+handed_on=('while [ $# -gt 0 ]; do
+    case $1 in -o | -l) to=$2; shift ;; -dumpversion) echo 99.1.2; exit ;; -*) ;; *) [ ! -f "$1" ] || from=$1 ;; esac; shift
+done' 'cat "$from" > "$to"')
 fake "$KIT/toolchain/bin/clang" "${handed_on[@]}"
 fake "$tools/cc" '[[ $* != -print-file-name=include ]] || { echo /usr/include; exit; }' "${handed_on[@]}"
 fake "$tools/aarch64-linux-gnu-gcc" "${handed_on[@]}"
@@ -157,7 +158,8 @@ tells 'the last words of that' "$(seq 11 30)"
 
 # The file of a release, with the profile.
 fake "$tree/packaging/profile/flags.sh" 'echo -fprofile'
-fake "$tree/packaging/compile.sh" 'sleep "${SLOW:-0}"; mkdir -p "crates/$1/out/flagged"; cd "crates/$1/out/flagged" || exit; echo "$*" | tee erd liberd_c.a; seq 40
+fake "$tree/packaging/compile.sh" 'sleep "${SLOW:-0}"
+mkdir -p "crates/$1/out/flagged"; cd "crates/$1/out/flagged" || exit; echo "$*" | tee erd liberd_c.a; seq 40
 printf "%s\n" "warning: one [-Wbackend-plugin]" "warning: two [-Wbackend-plugin]" "warning: three [-Wother]" > warnings; exit "${ENDED:-0}"'
 echo plain > "$tree/erd"
 mkdir -p "$tree/out/c"
@@ -312,13 +314,15 @@ for part in proved calls heap; do
 done
 fresh env -u PROFILE packaging/portable/linux.sh aarch64
 expect 'the library for aarch64' 0
-equal 'its parts' "$(cat "$tree/out/portable/linux-aarch64/liberd.a")" "$(cat "$parts/proved.ll" packaging/portable/pick_bytes/aarch64.ll; echo calls; echo heap)"
+equal 'its parts' "$(cat "$tree/out/portable/linux-aarch64/liberd.a")" \
+    "$(cat "$parts/proved.ll" packaging/portable/pick_bytes/aarch64.ll; echo calls; echo heap)"
 equal 'each is compiled by the profile' "$(grep -c -- "^clang --target=aarch64-linux-gnu -O3 -fPIC .* -fprofile-use=$tree/out/profile/erd.profdata" "$asked")" 3
 equal 'its files' "$(cd "$tree/out/portable/linux-aarch64" && LC_ALL=C ls -R | paste -sd ' ')" \
     ".: erd.h liberd.a liberd.so liberd.so.0 liberd.so.$(cat VERSION) pkgconfig  ./pkgconfig: erd.pc"
 fresh env -u PROFILE packaging/portable/windows.sh
 expect 'the library for Windows' 0
-equal 'its parts are compiled by the profile' "$(grep -- "-fprofile-use=$tree/out/profile/erd.profdata" "$asked" | grep -o ' out/portable/parts/[a-z]*\.ll' | paste -sd ' ')" \
+equal 'its parts are compiled by the profile' "$(grep -- "-fprofile-use=$tree/out/profile/erd.profdata" "$asked" |
+    grep -o ' out/portable/parts/[a-z]*\.ll' | paste -sd ' ')" \
     ' out/portable/parts/proved.ll  out/portable/parts/calls.ll  out/portable/parts/heap.ll'
 equal 'what is linked' "$(grep -o 'gcc -shared .*' "$asked" | grep -o 'parts/\S*' | paste -sd ' ')" \
     'parts/proved.windows.o parts/calls.windows.o parts/heap.windows.o parts/rc.windows.o parts/erd.def'

@@ -136,7 +136,8 @@ fi
 in_zsh() {
     # shellcheck disable=SC2016
     zsh -fc '_describe() { print -r -- "${(P)2}" }; _arguments() { print -rl -- "$@" }; words=("$@"); CURRENT=$#words; . packaging/completions/_erd
-    ' zsh "${@:2:$# - 2}" 2>&1 | sed 's/:tell.*help:write the help of a subcommand/ ../; s/\[[^]]*\]//; s/:\(type\|steps\):.*/:\1/' | paste -sd ' ' > "$work/out"
+    ' zsh "${@:2:$# - 2}" 2>&1 |
+        sed 's/:tell.*help:write the help of a subcommand/ ../; s/\[[^]]*\]//; s/:\(type\|steps\):.*/:\1/' | paste -sd ' ' > "$work/out"
     equal "zsh completes $1" "$(cat "$work/out")." "${*: -1}."
 }
 if command -v zsh > /dev/null; then

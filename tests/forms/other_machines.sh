@@ -57,7 +57,8 @@ of_linux() {
     exported "the library for $processor" $(dynamic "$folder/liberd.so")
     equal "the name in the library for $processor" "$(readelf -d "$folder/liberd.so" | sed -n 's/.*soname: \[\(.*\)\]/\1/p')" liberd.so.0
     guarded "the library for $processor" "$folder/liberd.so"
-    equal "what the library for $processor needs" "$(readelf -dW "$folder/liberd.so" | sed -n 's/.*(NEEDED).*\[\(.*\)\]/\1/p' | grep -v '^ld-linux' | paste -sd ' ')" libc.so.6
+    equal "what the library for $processor needs" "$(readelf -dW "$folder/liberd.so" | sed -n 's/.*(NEEDED).*\[\(.*\)\]/\1/p' |
+        grep -v '^ld-linux' | paste -sd ' ')" libc.so.6
     run "$compiler" -std=c11 -O2 -Wall -Wextra -I"$folder" tests/forms/caller.c -L"$folder" -lerd -o "$work/$processor-caller"
     expect "a caller for $processor" 0
     answers "$processor" "${@:3}" "$work/$processor-caller"

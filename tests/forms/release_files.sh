@@ -139,7 +139,8 @@ equal 'what liberd-dev needs' "$(dpkg-deb --field "$release/liberd-dev_$version-
 for row in 'liberd0 amd64 libs library' 'liberd0 arm64 libs library' 'liberd-dev amd64 libdevel headers' 'liberd-dev arm64 libdevel headers'; do
     read -r package architecture section kind <<< "$row"
     file=$release/${package}_$version-1_$architecture.deb
-    equal "what $package for $architecture is" "$(dpkg-deb --show --showformat '${Package} ${source:Package} ${Version} ${Architecture} ${Multi-Arch} ${Section}' "$file")" \
+    equal "what $package for $architecture is" \
+        "$(dpkg-deb --show --showformat '${Package} ${source:Package} ${Version} ${Architecture} ${Multi-Arch} ${Section}' "$file")" \
         "$package erd $version-1 $architecture same $section"
     described "$package for $architecture" "$file" " - $kind"
 done

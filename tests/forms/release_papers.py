@@ -18,14 +18,15 @@ MIT, APACHE = 'Copyright (c) 2020 Ann\n', 'TERMS AND CONDITIONS FOR USE, REPRODU
 # The libraries of the kit, each with its files.
 LIBRARIES = {
     'std': {},
-    'one': {'LICENSE-MIT': MIT + 'Copyright (c) 2020  Ann\ncopyright notices stay\nCopyright © Bob', 'LICENSE-APACHE': APACHE, 'src/tests/all.rt': 'four::call',
-            'src/lib.rt': 'five() // five::call\nmy_two::x core::seven::x one::y', 'src/deep/more.rt': 'six::call', 'src/tests.rt': 'four::more',
+    'one': {'LICENSE-MIT': MIT + 'Copyright (c) 2020  Ann\ncopyright notices stay\nCopyright © Bob', 'LICENSE-APACHE': APACHE,
+            'src/tests/all.rt': 'four::call', 'src/lib.rt': 'five() // five::call\nmy_two::x core::seven::x one::y', 'src/deep/more.rt': 'six::call', 'src/tests.rt': 'four::more',
             'README.md': '# one\n\nThe first\nlibrary.\n\nMore of it.\n'},
     'two': {'LICENSE': MIT + 'Words of the licence.\n', 'src/lib.rt': '', 'README.md': '# two\n\nA port of the crate `two` (MIT or Zlib, `LICENSE`).\n'},
     'three': {'LICENSE-UNICODE': 'Unicode', 'src/lib.rt': ''},
     'four': {'src/lib.rt': ''}, 'five': {'src/lib.rt': ''}, 'seven': {'src/lib.rt': ''},
     'six': {'src/lib.rt': 'eight::call', 'README.md': '# six\n\nOurs alone (MIT, no file).\n'},
-    'eight': {'LICENSE': MIT, 'LICENSE-NEW': 'New', 'src/lib.rt': 'six::back', 'README.md': '# eight\n\nAfter one (MIT or Zlib, x), and another under BSL-1.0;\n'},
+    'eight': {'LICENSE': MIT, 'LICENSE-NEW': 'New', 'src/lib.rt': 'six::back',
+              'README.md': '# eight\n\nAfter one (MIT or Zlib, x), and another under BSL-1.0;\n'},
 }
 WASM, MINGW, ARM = {'dlmalloc', 'libclang-rt-22-dev-wasm64'}, {'gcc-mingw-w64-x86-64-posix', 'mingw-w64-x86-64-dev'}, {'gcc-aarch64-linux-gnu'}
 # The files of a release, and the code of others that is in each beside that of the kit.
@@ -39,7 +40,8 @@ FILES = {
 # The libraries below the crates: their versions, licences and owners.
 KIT, NONE = '1z', 'NOASSERTION'
 BELOW = {
-    'std': (KIT, NONE, NONE), 'one': (KIT, 'MIT OR Apache-2.0', 'Copyright (c) 2020 Ann\nCopyright © Bob'), 'two': (KIT, 'MIT OR Zlib', 'Copyright (c) 2020 Ann'),
+    'std': (KIT, NONE, NONE), 'one': (KIT, 'MIT OR Apache-2.0', 'Copyright (c) 2020 Ann\nCopyright © Bob'),
+    'two': (KIT, 'MIT OR Zlib', 'Copyright (c) 2020 Ann'),
     'three': (KIT, 'Unicode-3.0', NONE), 'six': (KIT, NONE, NONE), 'eight': (KIT, '(MIT OR Zlib) AND BSL-1.0', 'Copyright (c) 2020 Ann'),
 }
 OTHERS = {
@@ -119,7 +121,8 @@ def bill(top):
     yield 'its day', '1970-01-02T00:00:00Z', document['creationInfo']['created']
     yield 'its name', 'erd-1.2.3', document['name']
     whose = 'Organization: The maintainers of erd'
-    yield 'whose it is', [whose, whose, 'Tool: packaging/bill_of_materials.py'], [document['packages'][0].get('supplier'), *document['creationInfo']['creators']]
+    yield 'whose it is', [whose, whose, 'Tool: packaging/bill_of_materials.py'], \
+        [document['packages'][0].get('supplier'), *document['creationInfo']['creators']]
     yield 'the licence that SPDX has not', ['LicenseRef-mingw-w64-public-domain'], [one['licenseId'] for one in document['hasExtractedLicensingInfos']]
     yield 'a library without a licence', 'A library of the kit, whose files name no licence.', comment_of(document, 'six')
     yield 'a library with one', 'A library of the kit.', comment_of(document, 'one')
@@ -143,18 +146,19 @@ def namespaces(top, first):
 
 def notices(top):
     """The cases of the notices: what is written, what is told of another text, and what Debian gets."""
-    yield 'no notices', (1, 'FAILED: THIRD-PARTY-NOTICES has the licences of the kit\n0 passed, 1 failed\n'), status_of(run(top, 'packaging/notices.py'))
+    wrong = (1, 'FAILED: THIRD-PARTY-NOTICES has the licences of the kit\n0 passed, 1 failed\n')
+    yield 'no notices', wrong, status_of(run(top, 'packaging/notices.py'))
     yield 'they are written', (0, ''), status_of(run(top, 'packaging/notices.py', '--write'))
     yield 'they are right', (0, 'ok: THIRD-PARTY-NOTICES has the licences of the kit\n1 passed, 0 failed\n'), status_of(run(top, 'packaging/notices.py'))
     text = (top / 'THIRD-PARTY-NOTICES').read_text(encoding='utf-8')
     parts = text.split('-' * 78 + '\n')
-    yield 'the libraries that have notices', ['eight', 'one', 'three', 'two', 'dlmalloc, in erd.wasm, the npm package and the page', 'Without a licence of their own'], \
-        [part.split('\n')[0] for part in parts[1:]]
+    heads = ['eight', 'one', 'three', 'two', 'dlmalloc, in erd.wasm, the npm package and the page', 'Without a licence of their own']
+    yield 'the libraries that have notices', heads, [part.split('\n')[0] for part in parts[1:]]
     yield 'a library', 'one\n\nThe first library.\n\nLICENSE-APACHE:\n\n' + APACHE + '\nLICENSE-MIT:\n\n' + LIBRARIES['one']['LICENSE-MIT'], parts[2].rstrip()
     yield 'a text that stands above', True, 'LICENSE:\n\nThe text is that of LICENSE of eight, above.\n' not in parts[4] and 'Words of the licence.' in parts[4]
     yield 'those that have none', True, '\nsix, std come with the kit' in text
     write(top / 'kit' / 'rattle' / 'two', {'LICENSE': MIT.replace(' ', '\n')})
-    yield 'another licence is told', (1, 'FAILED: THIRD-PARTY-NOTICES has the licences of the kit\n0 passed, 1 failed\n'), status_of(run(top, 'packaging/notices.py'))
+    yield 'another licence is told', wrong, status_of(run(top, 'packaging/notices.py'))
     run(top, 'packaging/notices.py', '--write')
     yield 'the same words are not told twice', True, \
         'LICENSE:\n\nThe text is that of LICENSE of eight, above.\n' in (top / 'THIRD-PARTY-NOTICES').read_text(encoding='utf-8')

@@ -47,7 +47,8 @@ packages 0 LOST=lost
 expect_text 'one that is nowhere' 0 $'packages, try 1 of 3: E: no lost\npackages, try 2 of 3: E: no lost\npackages, try 3 of 3: E: no lost
 packages that are not available, for the other: lost'
 all='apt-get update;apt-get install gone lost found'
-notes 'what is asked then of each group' "$all;sleep 5;$all;sleep 10;$all;sleep 15;apt-get install gone;apt-get install lost found;apt-get install lost;apt-get install found"
+notes 'what is asked then of each group' \
+    "$all;sleep 5;$all;sleep 10;$all;sleep 15;apt-get install gone;apt-get install lost found;apt-get install lost;apt-get install found"
 echo here > "$tree/packaging/debian-packages.txt"
 packages 0
 expect_text 'where all are installed' 0 ''
@@ -93,7 +94,8 @@ fake "$work/plain/conformance/make" 'mkdir "$1" && touch "$1/run"'
 run "$work/plain/packaging/source.sh"
 v=$(cat VERSION)
 expect_text 'the source without git' 0 "out/erd-$v-source.tar.gz"
-equal 'what it has' "$(tar --list --gzip --file "$work/plain/out/erd-$v-source.tar.gz" | grep -v '/$\|/packaging/' | paste -sd ' ' | sed "s|erd-$v-source|TOP|g")" \
+equal 'what it has' "$(tar --list --gzip --file "$work/plain/out/erd-$v-source.tar.gz" |
+    grep -v '/$\|/packaging/' | paste -sd ' ' | sed "s|erd-$v-source|TOP|g")" \
     'TOP/CHANGELOG.md TOP/LICENSE-APACHE TOP/LICENSE-MIT TOP/VERSION TOP/conformance/make TOP/crates/low/src/lib.rt TOP/tests/out'
 run "$work/plain/packaging/conformance.sh"
 expect_text 'the conformance suite' 0 "out/erd-$v-conformance.tar.gz"
@@ -206,8 +208,10 @@ fake "$tools/rt" 'echo "$KIT/page.html"'
 
 # The profile anew: of the program and of the library, on each report, and of nothing else.
 fake "$KIT/toolchain/bin/clang" 'echo 99.1.2'
-fake "$tree/packaging/compile.sh" 'mkdir -p crates/{$1,erd_c}/out/flagged; install counting crates/$1/out/flagged/$1; echo code > crates/erd_c/out/flagged/liberd_c.a'
-fake "$tree/counting" 'exec > /dev/null; touch "${LLVM_PROFILE_FILE%/*}/$(basename "$0").profraw"; for word; do [ ! -e "$word" ] || from=$word; done; exit "$(grep -c "\"VotesAllowed\":1.5\\|\"PartyId\":\"nobody\"" "$from")"'
+fake "$tree/packaging/compile.sh" 'mkdir -p crates/{$1,erd_c}/out/flagged
+install counting crates/$1/out/flagged/$1; echo code > crates/erd_c/out/flagged/liberd_c.a'
+fake "$tree/counting" 'exec > /dev/null; touch "${LLVM_PROFILE_FILE%/*}/$(basename "$0").profraw"
+for word; do [ ! -e "$word" ] || from=$word; done; exit "$(grep -c "\"VotesAllowed\":1.5\\|\"PartyId\":\"nobody\"" "$from")"'
 fake "$tree/packaging/profile/runtime.sh" 'echo runtime.a'
 fake "$tree/packaging/static_library.sh" 'cp "$1" "$2"'
 fake "$tools/cc" 'while [ $# -gt 0 ]; do [ "$1" != -o ] || install counting "$2"; shift; done'
@@ -220,7 +224,8 @@ fresh packaging/profile/make.sh
 expect 'the profile is made anew' 0
 equal 'what is compiled with counts' "$(grep '^compile\|^static\|^runtime' "$asked" | sed 's| /[^ ]*| HERE|' | paste -sd ';')" \
     'compile.sh erd -fprofile-generate;compile.sh erd_c -fprofile-generate;static_library.sh crates/erd_c/out/flagged/liberd_c.a HERE;runtime.sh HERE'
-equal 'what the program and the library are asked' "$(grep '^erd \|^library ' "$asked" | cut -d ' ' -f 1,2 | LC_ALL=C sort | uniq -c | sed 's/^ *//' | paste -sd ';')" \
+equal 'what the program and the library are asked' "$(grep '^erd \|^library ' "$asked" |
+    cut -d ' ' -f 1,2 | LC_ALL=C sort | uniq -c | sed 's/^ *//' | paste -sd ';')" \
     '11 erd canon;13 erd check;5 erd compare;10 library canon;12 library check-data;5 library compare-data'
 equal 'the counts of both are taken together' "$(grep ' merge ' "$asked" | sed "s| [^ ]*/| |g" | paste -sd ';')" \
     'llvm-profdata-99 merge erd.profraw library.profraw -o erd.profdata;llvm-profdata-99 merge -text erd.profdata -o erd.proftext'

@@ -29,7 +29,8 @@ ASKED = {
 SMALL = {
     'VERSION': '1.2.3\n', 'CHANGELOG.md': '# Changes\n\n## Unreleased\n\n## 1.2.3 - 2031-02-03\n\n## 1.2.0 - 2030-02-03\n',
     'README.md': '# `erd`\n\nFirst words, [the guide](docs/GUIDE.md#one), [a file](examples/a.json), [a folder](examples) and [another](more).\n',
-    'docs/GUIDE.md': '# The guide & more\n\n## One\n\nWords of `one`.\n\n### Deep\n\n| a |\n|---|\n| b |\n\n## Two\n\n[Up](../README.md), [the web](https://a.example/x.md).\n',
+    'docs/GUIDE.md': '# The guide & more\n\n## One\n\nWords of `one`.\n\n### Deep\n\n| a |\n|---|\n| b |\n\n'
+                     '## Two\n\n[Up](../README.md), [the web](https://a.example/x.md).\n',
     'examples/README.md': '# Examples\n\n## One\n\n## Two\n', 'examples/a.json': '{}', 'more/b.txt': '', 'web/fixes.es.md': '# Arreglos\n',
     'docs/OTHER.md': 'No heading.\n', 'third_party/x.md': '# X\n', 'crates/y/z.md': '# Z\n', 'out/made.md': '# Made\n', 'node_modules/n.md': '# N\n',
     'out/portable/erd.html': 'the page', 'out/erd-1.2.3-conformance.tar.gz': 'the suite', 'out/erd-1.2.0-conformance.tar.gz': 'an older one',
@@ -127,9 +128,11 @@ def searched(browser, said):
     count, rows, marks = found('Does the RAM grow?')
     yield from compared(('another word for it is found, and marked', True, rows > 0 and 'memory' in marks and set(marks) <= {'ram', 'memory', 'grow'}))
     count, rows, _ = found('report')
-    yield from compared(('the first of many sections', [50, True], [rows, re.fullmatch('[0-9]{2,} sections, of which the first 50 stand here:', count) is not None]))
+    yield from compared(('the first of many sections', [50, True],
+                         [rows, re.fullmatch('[0-9]{2,} sections, of which the first 50 stand here:', count) is not None]))
     yield from compared(('words that say nothing are asked for where there are no others', True, found('the')[1] > 0))
-    yield from compared(('no words', ['', 0, []], found(' ')), ('words that are nowhere', ['Nothing has all of these words.', 0, []], found('minisign zzzyyyxxx')))
+    yield from compared(('no words', ['', 0, []], found(' ')),
+                        ('words that are nowhere', ['Nothing has all of these words.', 0, []], found('minisign zzzyyyxxx')))
     yield from compared(('what people ask, whose other words are nowhere', [], browser.script(
         'return Object.entries(ALSO).filter(([, words]) => !words.every((word) => sections.some(({ heading, text }) => '
         '(heading + " " + text).toLowerCase().includes(word)))).map(([word]) => word)')))
@@ -149,9 +152,11 @@ def small_site():
         site = top / 'out' / 'site'
         told = (ran.returncode, ran.stdout, ran.stderr)
         yield from compared(
-            ('a small site: what is told', (0, 'out/site: 6 pages\n', 'site: there is no out/release/SHA256SUMS\nsite: there is no out/release/erd-1.2.3.spdx.json\n'), told),
-            ('the files of a small site', ['CHANGELOG.html', 'contents.html', 'docs/GUIDE.html', 'docs/OTHER.html', 'erd-1.2.3-conformance.tar.gz', 'erd.html', 'examples/README.html',
-                           'examples/a.json', 'index.html', 'search.html', 'search.js', 'sections.js', 'style.css', 'web/fixes.es.html'],
+            ('a small site: what is told', (0, 'out/site: 6 pages\n',
+                                            'site: there is no out/release/SHA256SUMS\nsite: there is no out/release/erd-1.2.3.spdx.json\n'), told),
+            ('the files of a small site', [
+                'CHANGELOG.html', 'contents.html', 'docs/GUIDE.html', 'docs/OTHER.html', 'erd-1.2.3-conformance.tar.gz', 'erd.html', 'examples/README.html',
+                'examples/a.json', 'index.html', 'search.html', 'search.js', 'sections.js', 'style.css', 'web/fixes.es.html'],
              sorted(str(path.relative_to(site)) for path in site.rglob('*') if path.is_file())))
         if ran.returncode == 0:
             yield from small_pages({str(path.relative_to(site)): path.read_text(encoding='utf-8') for path in site.rglob('*') if path.is_file()})
@@ -170,7 +175,8 @@ def small_pages(read):
     contents = guide.split('aria-label="On this page"')[1].split('</nav>')[0]
     sections = json.loads(read['sections.js'].removeprefix('const sections = ').rstrip(';\n'))
     yield from compared(
-        ('a small site: its links', [('docs/GUIDE.html#one', 'the guide'), ('examples/a.json', 'a file'), ('examples/README.html', 'a folder'), ('index.html', 'another')], links),
+        ('a small site: its links', [('docs/GUIDE.html#one', 'the guide'), ('examples/a.json', 'a file'), ('examples/README.html', 'a folder'),
+                                     ('index.html', 'another')], links),
         ('the page of all files and pages', [
             ('erd.html', 'erd.html', 'the page that checks and compares files in a browser'),
             ('erd-1.2.3-conformance.tar.gz', 'erd-1.2.3-conformance.tar.gz', 'the conformance suite, a folder for each case'),
@@ -180,16 +186,19 @@ def small_pages(read):
         ('the links of a page', ['../index.html', 'https://a.example/x.md'], re.findall(r'href="([^"]*)"', guide.split('id="two"')[1].split('</p>')[0])),
         ('the way to all pages', [
             ('../index.html', '', 'erd'), ('GUIDE.html', ' aria-current="page"', 'Guide'), ('../examples/README.html', '', 'Examples'),
-            ('../web/fixes.es.html', '', 'Español'), ('../CHANGELOG.html', '', 'Changes')], re.findall(r'<a href="([^"]*)"( aria-current="page")?>([^<]*)</a>', navigation)),
+            ('../web/fixes.es.html', '', 'Español'), ('../CHANGELOG.html', '', 'Changes')],
+         re.findall(r'<a href="([^"]*)"( aria-current="page")?>([^<]*)</a>', navigation)),
         ('what stands on a page', [('2', 'one', 'One'), ('3', 'deep', 'Deep'), ('2', 'two', 'Two')],
          re.findall(r'<li class="h(.)"><a href="#([^"]*)">([^<]*)</a>', contents)),
         ('a page with two sections has no contents', False, 'On this page' in read['examples/README.html']),
         ('the languages', ['en', 'es'], [re.search('<html lang="(..)">', read[name])[1] for name in ('index.html', 'web/fixes.es.html')]),
         ('the titles', ['erd', 'The guide &amp; more', 'docs/OTHER.md', 'Everything here', 'Search'],
          [re.search('<title>(.*)</title>', read[name])[1] for name in ('index.html', 'docs/GUIDE.html', 'docs/OTHER.html', 'contents.html', 'search.html')]),
-        ('the version and its day', {'erd 1.2.3 of 2031-02-03'}, {re.search('<footer lang="en">(.*)</footer>', text)[1] for name, text in read.items() if name in HAVE_FOOT}),
+        ('the version and its day', {'erd 1.2.3 of 2031-02-03'},
+         {re.search('<footer lang="en">(.*)</footer>', text)[1] for name, text in read.items() if name in HAVE_FOOT}),
         ('a table can be scrolled', 1, guide.count('<div class="wide"><table')),
-        ('the files that were copied', ['{}', 'the page', 'the suite'], [read[name] for name in ('examples/a.json', 'erd.html', 'erd-1.2.3-conformance.tar.gz')]),
+        ('the files that were copied', ['{}', 'the page', 'the suite'],
+         [read[name] for name in ('examples/a.json', 'erd.html', 'erd-1.2.3-conformance.tar.gz')]),
         ('what the search knows of a page', [
             {'page': 'docs/GUIDE.html', 'anchor': 'the-guide--more', 'text': '', 'weight': 4, 'title': 'The guide & more', 'heading': ''},
             {'page': 'docs/GUIDE.html', 'anchor': 'one', 'text': 'Words of one .', 'weight': 4, 'title': 'The guide & more', 'heading': 'One'},

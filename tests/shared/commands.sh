@@ -96,7 +96,8 @@ version_told() {
     gzip -dc "$1/changelog.Debian.gz" | sed -n '1s/^\(.*\) (\(.*\)) .*/\1 \2/p; s/^  \* Version \([0-9.]*[0-9]\)\. .*/\1/p' | paste -sd ' '
 }
 
-# described NAME PACKAGE [WORDS]: a package says what it is for, with these words at the end, who hands it on, how large it is, within a tenth, and the sums of its files
+# described NAME PACKAGE WORDS: a package says what it is for, with these words at the end, who hands it on, how large it is, within a
+# tenth, and the sums of its files
 described() {
     local folder=$work/described size sum
     rm -rf "$folder"
@@ -120,7 +121,8 @@ noted() {
     said "the notices in ${1##*/}" "$why$(grep -n '^[^ ]' "$1/copyright" | grep -v ':\(Format\|Upstream-Name\|Comment\|Files\|Copyright\|License\):')"
     equal "the licence for all files in ${1##*/}" "$(sed -n '/^Files: \*/,/^$/p' "$1/copyright" | paste -sd ' ')" \
         'Files: * Copyright: 2026 The maintainers of erd License: Expat or Apache-2.0 '
-    equal "the words of the Expat licence in ${1##*/}" "$(sed -n '/^License: Expat$/,/^$/p' "$1/copyright" | sed '1d; $d; s/^ //; s/^\.$//')" "$(tail -n +5 LICENSE-MIT)"
+    equal "the words of the Expat licence in ${1##*/}" \
+        "$(sed -n '/^License: Expat$/,/^$/p' "$1/copyright" | sed '1d; $d; s/^ //; s/^\.$//')" "$(tail -n +5 LICENSE-MIT)"
 }
 
 # guarded NAME FILE: what is loaded on Linux lies anywhere, can't be written once it is linked nor run from its stack, and has no names of
