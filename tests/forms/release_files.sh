@@ -160,8 +160,9 @@ Cflags: -I\${includedir}"
 tar --extract --gzip --file "$release/liberd-$version-linux-x86_64.tar.gz" --directory "$work"
 folder=$work/liberd-$version-linux-x86_64
 if command -v pkg-config > /dev/null; then
-    equal 'the file for pkg-config in the archive' "$(env -i PATH="$tools" PKG_CONFIG_LIBDIR="$folder/pkgconfig" pkg-config --modversion --cflags --libs erd |
-        paste -sd ' ' | sed "s|$folder/pkgconfig/\.\.|HERE|g; s/ *$//")" "$version -IHERE -LHERE -lerd"
+    asked() { env -i PATH="$tools" PKG_CONFIG_LIBDIR="$folder/pkgconfig" pkg-config "$@" erd; }
+    equal 'the version in the file for pkg-config of the archive' "$(asked --modversion)" "$version"
+    equal 'its folders are those of the archive' "$(asked --cflags --libs | sed "s|$folder/pkgconfig/\.\.|HERE|g; s/ *$//")" '-IHERE -LHERE -lerd'
 fi
 plain cc -I"$root/usr/include" "$example" "$root/usr/lib/x86_64-linux-gnu/liberd.a" -o "$work/static"
 expect 'a program over the static library' 0
