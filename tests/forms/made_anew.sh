@@ -334,9 +334,9 @@ for row in 'erd.dll 2' 'erd.exe 1'; do
     read -r file type <<< "$row"
     # shellcheck disable=SC2016
     fresh bash -c '. packaging/portable/common.sh; resource "$1" out/rc' form.sh "$file"
-    equal "what Windows tells of $file" "$(grep -o '@.*@\|^F.*ION .*\|^P.*ION .*\|^FILETYPE.*\|"\(File\|Orig\|Product\).*' "$tree/out/rc" | paste -sd ';')" \
+    equal "what Windows tells of $file" "$(grep -o '@.*@\|^F.*ION .*\|^P.*ION .*\|^FILETYPE.*\|"\(File\|Orig\|Product\|Trans\).*' "$tree/out/rc" | paste -sd ';')" \
         "FILEVERSION $numbers;PRODUCTVERSION $numbers;FILETYPE $type;\"FileDescription\", \"erd: check, canonical form and comparison of ballot definitions\";\
-\"FileVersion\", \"$(cat VERSION)\";\"OriginalFilename\", \"$file\";\"ProductName\", \"erd\";\"ProductVersion\", \"$(cat VERSION)\""
+\"FileVersion\", \"$(cat VERSION)\";\"OriginalFilename\", \"$file\";\"ProductName\", \"erd\";\"ProductVersion\", \"$(cat VERSION)\";\"Translation\", 0x409, 1200"
 done
 
 fake "$tools/rt" 'echo "$KIT/page.html"'
