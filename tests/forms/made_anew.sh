@@ -79,7 +79,8 @@ fake "$KIT/bin/rattle-link" 'for word; do
     before=$word
 done
 echo "linked $(cat "$from")" > "$to"'
-fake "$KIT/toolchain/bin/clang" '[[ " $* " != *" -fwarns "* ]] || echo "warning: no counts [-Wbackend-plugin]" >&2' "${handed_on[@]}"
+fake "$KIT/toolchain/bin/clang" '[[ " $* " != *" -fwarns "* ]] || echo "warning: no counts [-Wbackend-plugin]" >&2' \
+    '[[ " $* " != *" -fbad "* ]] || { echo "error: no such flag" >&2; exit 1; }' "${handed_on[@]}"
 export TMPDIR=$work
 
 # compiled CRATE FLAG ..: compiles it; notes tells which of the kit's commands were asked
@@ -105,6 +106,9 @@ equal 'with flags it goes elsewhere' "$(cat "$tree/crates/erd/out/flagged/module
 equal 'and has its own sum' "$(cat "$tree/crates/erd/out/flagged/module.bc.of")" "$(cd "$tree" && sha256sum crates/erd/out/flagged/erd)"
 fresh packaging/compile.sh erd -fone -ftwo
 equal 'clang gets the flags' "$(grep -o 'clang-of-the-kit.*' "$asked" | sed 's/.* -o //')" 'out/flagged/erd.o -fone -ftwo'
+compiled erd -fbad
+expect 'clang refuses a flag' 1
+tells 'what it says is told' 'error: no such flag'
 echo wrong > "$tree/crates/erd/src/main.rt"
 compiled erd
 expect 'a program that is not proved' 1
@@ -326,6 +330,7 @@ equal 'its parts are compiled by the profile' "$(grep -- "-fprofile-use=$tree/ou
     ' out/portable/parts/proved.ll  out/portable/parts/calls.ll  out/portable/parts/heap.ll'
 equal 'what is linked' "$(grep -o 'gcc -shared .*' "$asked" | grep -o 'parts/\S*' | paste -sd ' ')" \
     'parts/proved.windows.o parts/calls.windows.o parts/heap.windows.o parts/rc.windows.o parts/erd.def'
+equal 'the DLL that erd.lib names' "$(grep -o -- '-d .*erd.lib' "$asked")" "-d out/portable/parts/erd.def -D erd.dll -l out/portable/windows-x86_64/erd.lib"
 equal 'what it exports' "$(cat "$parts/erd.def")" "LIBRARY erd.dll
 EXPORTS
 $(sed 's/^/    /' packaging/portable/exports.txt)"
@@ -334,9 +339,11 @@ for row in 'erd.dll 2' 'erd.exe 1'; do
     read -r file type <<< "$row"
     # shellcheck disable=SC2016
     fresh bash -c '. packaging/portable/common.sh; resource "$1" out/rc' form.sh "$file"
-    equal "what Windows tells of $file" "$(grep -o '@.*@\|^F.*ION .*\|^P.*ION .*\|^FILETYPE.*\|"\(File\|Orig\|Product\|Trans\).*' "$tree/out/rc" | paste -sd ';')" \
+    equal "what Windows tells of $file" "$(grep -o '@.*@\|^F.*ION .*\|^P.*ION .*\|^FILETYPE.*\|"\(File\|Orig\|Product\|Trans\).*' "$tree/out/rc" |
+        paste -sd ';')" \
         "FILEVERSION $numbers;PRODUCTVERSION $numbers;FILETYPE $type;\"FileDescription\", \"erd: check, canonical form and comparison of ballot definitions\";\
-\"FileVersion\", \"$(cat VERSION)\";\"OriginalFilename\", \"$file\";\"ProductName\", \"erd\";\"ProductVersion\", \"$(cat VERSION)\";\"Translation\", 0x409, 1200"
+\"FileVersion\", \"$(cat VERSION)\";\"OriginalFilename\", \"$file\";\"ProductName\", \"erd\";\
+\"ProductVersion\", \"$(cat VERSION)\";\"Translation\", 0x409, 1200"
 done
 
 fake "$tools/rt" 'echo "$KIT/page.html"'

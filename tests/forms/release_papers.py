@@ -19,7 +19,8 @@ MIT, APACHE = 'Copyright (c) 2020 Ann\n', 'TERMS AND CONDITIONS FOR USE, REPRODU
 LIBRARIES = {
     'std': {},
     'one': {'LICENSE-MIT': MIT + 'Copyright (c) 2020  Ann\ncopyright notices stay\nCopyright © Bob', 'LICENSE-APACHE': APACHE,
-            'src/tests/all.rt': 'four::call', 'src/lib.rt': 'five() // five::call\nmy_two::x core::seven::x one::y', 'src/deep/more.rt': 'six::call', 'src/tests.rt': 'four::more',
+            'src/tests/all.rt': 'four::call', 'src/lib.rt': 'five() // five::call\nmy_two::x core::seven::x one::y',
+            'src/deep/more.rt': 'six::call', 'src/tests.rt': 'four::more',
             'README.md': '# one\n\nThe first\nlibrary.\n\nMore of it.\n'},
     'two': {'LICENSE': MIT + 'Words of the licence.\n', 'src/lib.rt': '', 'README.md': '# two\n\nA port of the crate `two` (MIT or Zlib, `LICENSE`).\n'},
     'three': {'LICENSE-UNICODE': 'Unicode', 'src/lib.rt': ''},
