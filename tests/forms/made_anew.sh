@@ -316,8 +316,10 @@ sed -i 's/ @llvm.x86.other.b(/(/' "$tree/crates/erd/out/module.bc"
 for part in proved calls heap; do
     echo "$part" > "$parts/$part.ll"
 done
+echo native > "$tree/out/c/liberd.a"
 fresh env -u PROFILE packaging/portable/linux.sh aarch64
 expect 'the library for aarch64' 0
+equal 'that of this machine stays' "$(cat "$tree/out/c/liberd.a")" native
 equal 'its parts' "$(cat "$tree/out/portable/linux-aarch64/liberd.a")" \
     "$(cat "$parts/proved.ll" packaging/portable/pick_bytes/aarch64.ll; echo calls; echo heap)"
 equal 'each is compiled by the profile' "$(grep -c -- "^clang --target=aarch64-linux-gnu -O3 -fPIC .* -fprofile-use=$tree/out/profile/erd.profdata" "$asked")" 3
@@ -355,6 +357,15 @@ for row in 'needed clever nosuch' 'needed_file clever /no/such'; do
     fresh bash -c '. packaging/portable/common.sh; "$@"; echo on' form.sh "$function" "$package" "$name"
     expect_text "$function: what is missing" 1 ''
     tells "$function: it is named" "form.sh: there is no $name: install the package clever"
+done
+mkdir "$work/few"
+for name in bash basename dirname cat sed date mkdir; do
+    ln -s "$(command -v $name)" "$work/few"
+done
+for row in 'wasm-opt binaryen' 'wasm2wat wabt'; do
+    run env -C "$tree" PATH="$tools:$work/few" packaging/portable/wasm.sh
+    tells "a tool of erd.wasm that is missing: ${row% *}" "packaging/portable/wasm.sh: there is no ${row% *}: install the package ${row#* }"
+    fake "$work/few/${row% *}"
 done
 fake "$tools/npm" 'touch "$8/other.tgz"; echo other.tgz'
 mkdir -p "$tree/bindings/js"

@@ -74,10 +74,14 @@ i16x8.splat' packaging/portable/wasm/plain_loads.py
 # What only `slow` needs is made small: what it calls, and what stands in a table that it reads.
 module() {
     cat << END
+@fixed = private constant [1 x ptr] [ptr @kept]
 @table = private constant [1 x ptr] [ptr @"in table"]
 define void @fast(ptr %0) #0 {
   call void @shared()
   call void @next()
+  load ptr, ptr @fixed
+}
+define internal void @kept() {
 }
 define void @slow()$1 #1 {
   call void @own()
