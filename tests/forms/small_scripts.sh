@@ -137,11 +137,11 @@ equal 'the page is made again' "$(cat "$tree/out/portable/erd.html")" page
 for name in module linux windows wasm program; do
     fake "$tree/packaging/portable/$name.sh" '[[ $1 != "${BROKEN:-none}" ]]'
 done
-fresh packaging/portable/make.sh
+fresh env -u FORMS_ARE_MADE packaging/portable/make.sh
 expect 'all forms' 0
 notes 'what makes them' 'module.sh ;linux.sh x86_64;linux.sh aarch64;windows.sh ;wasm.sh ;program.sh aarch64;program.sh windows'
 equal 'a form, and what it needs' "$(head -n 1 "$work/out")" 'out/portable/linux-x86_64 (needs the C compiler alone)'
-fresh env BROKEN=aarch64 packaging/portable/make.sh
+fresh env -u FORMS_ARE_MADE BROKEN=aarch64 packaging/portable/make.sh
 expect 'two forms that are not made' 1
 equal 'they are named' "$(grep -v needs "$work/out" | paste -sd ';')" 'out/portable/linux-aarch64: not made;out/portable/program-aarch64: not made'
 notes 'the others are made' 'module.sh ;linux.sh x86_64;linux.sh aarch64;windows.sh ;wasm.sh ;program.sh aarch64;program.sh windows'
