@@ -93,6 +93,9 @@ for (const name of readdirSync(SUITE)) {
     if (difference !== null) {
         await tryRun(name, ['compare', ...words, join(folder, 'left.json'), join(folder, 'right.json')],
             [STATUSES[difference] ?? 1, difference, '']);
+        if (difference === 'same\n') {
+            await tryRun(name, ['compare', '--json', ...words, join(folder, 'left.json'), join(folder, 'right.json')], [0, 'null\n', '']);
+        }
         if (/^(left|right): /.test(difference)) {
             await tryRun(name, ['ballots', ...words, join(folder, 'left.json'), join(folder, 'right.json')], [STATUSES[difference] ?? 1, difference, '']);
         }
@@ -102,6 +105,9 @@ for (const name of readdirSync(SUITE)) {
         const status = STATUSES[lines] ?? 1;
         const file = join(folder, 'input.json');
         await tryRun(name, ['check', ...words, file], [status, lines, '']);
+        if (status === 0) {
+            await tryRun(name, ['check', '--json', ...words, file], [0, '[]\n', '']);
+        }
         // Why a report has no ballots is told as by a check.
         if (status !== 0) {
             await tryRun(name, ['ballots', ...words, file], [status, lines, '']);

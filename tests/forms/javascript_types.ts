@@ -29,6 +29,25 @@ const errors: Error[] = [new TooLongError(), new NoMemoryError(), new TrapError(
 erd.check(5);
 // @ts-expect-error: there is no such option
 erd.check('', { preferred: 'fips' });
+// What may be null is not used before that is known.
+// @ts-expect-error: a refused report has no canonical form
+canonical.bytes.length;
+// @ts-expect-error: two reports may be the same
+compared.difference.line;
+// @ts-expect-error: no side may be refused
+compared.side.length;
+// @ts-expect-error: an object may have no key
+all.differences[0].key.length;
+// @ts-expect-error: values may be too long
+all.differences[0].values.left;
+// @ts-expect-error: a style may have no key, and the election of a ballot too
+[erd.ballots('').ballots[0].key.length];
+// @ts-expect-error: a report may have no such ballot
+erd.ballot('', 0).ballot.lines;
+// @ts-expect-error: a report may have no such ballots
+erd.ballotsBeside('', '', 0, 0).ballots.rows;
+// @ts-expect-error: no copy is made of what is no report
+erd.prepared('', '').bytes;
 export { bytes, counts, difference, errors, files, more, order, pieces, name, results, side, steps, taken, text, values };
 
 import { comparePrepared, Copy, lineOfRemedy, Preparation, remedyOf, stepsOf, told } from 'erd/prepare';

@@ -105,12 +105,12 @@ DROP_FOLDER = """
 
 
 def folder(session):
-    """A folder is dropped. In it are a note, and a folder with more files than a browser tells at once."""
+    """A folder is dropped. In it are a note, names in capitals and of XML, and a folder with more files than a browser tells at once."""
     one = (EXAMPLES / 'one-unit.json').read_text(encoding='utf-8')
     names = [f'ballot-{number:03}.json' for number in range(101)]
     top = session.work / 'dropped'
     (top / 'inner').mkdir(parents=True)
-    for name in ['first.json', 'notes.txt', *(f'inner/{name}' for name in names)]:
+    for name in ['SECOND.JSON', 'first.json', 'notes.txt', 'third.xml', *(f'inner/{name}' for name in names)]:
         (top / name).write_text(one, encoding='utf-8')
     session.fresh()
     if session.browser.name == 'Chromium':
@@ -118,14 +118,15 @@ def folder(session):
             session.browser.devtools('Input.dispatchDragEvent', type=kind, x=500, y=300,
                                      data={'items': [], 'files': [str(top)], 'dragOperationsMask': 1})
     else:
-        session.browser.script(DROP_FOLDER, one, ['dropped', {'first.json': None, 'notes.txt': None, 'inner': dict.fromkeys(names)}])
+        session.browser.script(DROP_FOLDER, one, ['dropped', {'SECOND.JSON': None, 'first.json': None, 'notes.txt': None, 'third.xml': None, 'inner': dict.fromkeys(names)}])
     waited(session)
     rows = session.browser.script(ROWS)
     session.equal('many: a folder dropped', sorted(row[0] for row in rows),
-                  ['dropped/first.json', *(f'dropped/inner/{name}' for name in names), 'dropped/notes.txt'])
-    session.equal('many: all of it means the same', {row[3] for row in rows if row[0].endswith('.json')}, {'1: 102 files mean the same'})
-    session.equal('many: what is left out is named', [row[2:] for row in rows if row[0].endswith('.txt')], [[answers.say('verdict.leftOut'), '']])
-    session.has('many: it is counted', session.text('.many > p'), answers.say('many.leftOut', count=1))
+                  ['dropped/SECOND.JSON', 'dropped/first.json', *(f'dropped/inner/{name}' for name in names), 'dropped/notes.txt', 'dropped/third.xml'])
+    session.equal('many: all of it means the same', {row[3] for row in rows if row[0] != 'dropped/notes.txt'}, {'1: 104 files mean the same'})
+    session.equal('many: what is left out is named', [row[2:] for row in rows if row[0].endswith('.txt')],
+                  [['Left out: its name does not end in .json or .xml', '']])
+    session.has('many: it is counted', session.text('.many > p'), '1 file of a folder is left out, since its name does not end in .json or .xml.')
     session.fresh()
     session.browser.script(DROP_FOLDER, one, ['broken', None])
     session.becomes('many: a folder that is not read', lambda: session.text('#files-message'),
