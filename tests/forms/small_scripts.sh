@@ -231,6 +231,17 @@ equal 'the counts of both are taken together' "$(grep ' merge ' "$asked" | sed "
     'llvm-profdata-99 merge erd.profraw library.profraw -o erd.profdata;llvm-profdata-99 merge -text erd.profdata -o erd.proftext'
 equal 'the profile is the new one' "$(head -c 100 "$tree/packaging/profile/erd.proftext")" new
 
+# Where a crate can't be compiled with counts, what was compiled before is not asked, and the profile stays.
+for crate in erd erd_c; do
+    fake "$tree/packaging/compile.sh" 'echo "no $1 today"; [ "$1" != "$BROKEN" ]'
+    echo before > "$tree/packaging/profile/erd.proftext"
+    fresh env "BROKEN=$crate" packaging/profile/make.sh
+    expect "the profile where $crate is not compiled" 1
+    equal "it is told of $crate" "$(cat "$work/err")" "no $crate today"
+    equal "what is done without $crate" "$(grep -c '^erd \|^library \|^cc \|^llvm' "$asked")" 0
+    equal "the profile that was there before $crate" "$(cat "$tree/packaging/profile/erd.proftext")" before
+done
+
 # The program that is packed, with the page, and where it goes.
 fake "$tree/packaging/profiled.sh" 'echo "the/$1"'
 fake "$tree/packaging/page.sh" 'echo the/page'

@@ -193,7 +193,7 @@ CONTENTS = (
     '<n:Notes xmlns:n="http://itl.nist.gov/ns/voting/1500-100/v2">a</n:Notes>', '<n:Notes>a</n:Notes>', '<Notes xmlns="">a</Notes>', '<Notes a="1" a="2"/>',
     '<GpUnit xmlns:n="http://itl.nist.gov/ns/voting/1500-100/v2" xsi:type=" n:ReportingUnit "/>', '<GpUnit xsi:type="n:ReportingUnit"/>',
     '<Notes xml:lang="en">a</Notes>', '<Notes a="&lt;"/>', '<Notes a="<"/>', '<?xml version="1.0"?>', '<!DOCTYPE a>', '<Notes>a</Notes><Notes>b</Notes>',
-    '<Election><ElectionScopeId> a </ElectionScopeId><ElectionScopeId>b c</ElectionScopeId></Election>', '<!-- a -- b -->', '<Party><!----></Party>', '<parsererror>a</parsererror>',
+    '<Election><ElectionScopeId> a </ElectionScopeId><ElectionScopeId>b c</ElectionScopeId></Election>', '<Election><ElectionScopeId/></Election>', '<!-- a -- b -->', '<Party><!----></Party>', '<parsererror>a</parsererror>',
 )
 BY_HAND = (
     *(f'<ElectionReport {SPACE}>{inner}</ElectionReport>' for inner in CONTENTS),

@@ -108,6 +108,13 @@ for words in '--prefer local-level' '--prefer=local-level' '--prefer local-level
     run contrib/check-folder.sh $words "$work/fips.json"
     expect_text "the same under a preference: $words" 0 ''
 done
+# A type with a sign of equality is handed on whole.
+printf '#!/bin/sh\nprintf "%%s;" "$@" > "$ASKED"\necho accepted\n' > "$work/asked"
+chmod +x "$work/asked"
+for words in '--prefer=a=b' '--prefer a=b'; do
+    run env ERD="$work/asked" ASKED="$work/words" contrib/check-folder.sh $words "$folder/a.json"
+    equal "the preference that erd is given: $words" "$(cat "$work/words")" "check;--prefer;a=b;--;$folder/a.json;"
+done
 mkdir "$work/odd"
 cp -r "$folder" "$work/odd/-b"
 cp -r contrib "$work/odd"

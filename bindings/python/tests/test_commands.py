@@ -54,6 +54,20 @@ def test_command(run, case):
     assert run('canon', *preference(case), case / 'input.json') == wanted
 
 
+# Each call of the library that a command makes, and the words of the command before its reports.
+CALLS = [('command_line', ['check'], 1), ('pieces', ['check'], 1), ('pieces', ['compare'], 2),
+         ('ballots_told', ['ballots'], 1), ('prepare_file', ['prepare'], 1), ('whole', ['check', '--json'], 1)]
+
+
+@pytest.mark.parametrize('call, words, count', CALLS)
+def test_no_memory(run, monkeypatch, top, call, words, count):
+    def refused(*_given, **_named):
+        raise MemoryError
+
+    monkeypatch.setattr(f'erd.__main__.{call}', refused)
+    assert run(*words, *[top / 'examples' / 'one-unit.json'] * count) == (4, '', 'no memory\n')
+
+
 @pytest.mark.parametrize('size, wanted', [(MOST_BYTES, (2, 'not JSON\n', '')), (MOST_BYTES + 1, (3, '', 'too long\n'))])
 def test_most_bytes(run, tmp_path, size, wanted):
     report = tmp_path / 'blanks'

@@ -142,6 +142,8 @@ TOLD = {
                                      {'GpUnit': [{'@type': 'ElectionResults.y:ReportingUnit'}]}, NO_CLASS),
     'two references': ('<Election><ElectionScopeId>a b</ElectionScopeId></Election>', '/ElectionReport/Election[1]/ElectionScopeId',
                        {'Election': [{'@type': 'ElectionResults.Election', 'ElectionScopeId': 'a b'}]}, 'not one reference; the text is carried'),
+    'no reference': ('<Election><ElectionScopeId> </ElectionScopeId></Election>', '/ElectionReport/Election[1]/ElectionScopeId',
+                     {'Election': [{'@type': 'ElectionResults.Election', 'ElectionScopeId': ''}]}, 'not one reference; the text is carried'),
     'nil with a text': ('<Notes xsi:nil="true">a</Notes>', '/ElectionReport/Notes', {'Notes': 'a'}, NOT_NIL),
     'nil with an element': ('<Party xsi:nil="true" xsi:type="Party"><Color>b</Color></Party>', '/ElectionReport/Party[1]',
                             {'Party': [{'@type': 'ElectionResults.Party', 'Color': 'b'}]}, NOT_NIL),
