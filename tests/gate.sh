@@ -26,7 +26,7 @@ proved() {
     local crate
     [ -n "$is_beside" ] || ended tests/prove.sh
     for crate in "$@"; do
-        until is_proved "$crate" || [ -e "$proof/status" ] || [ -e "$proof/lost" ]; do sleep 1; done
+        until is_proved "$crate" || [ -e "$proof/status" ] || [ -e "$proof/lost" ]; do sleep 2; done
         is_proved "$crate" || return
     done
 }
@@ -51,7 +51,7 @@ library() {
     local folder
     folder=$(dirname "$(grep -lxF tests/library/c_library.sh "$results"/[0-9]*/command)")
     until grep -aqE '^(ok|FAILED) +make library' "$folder/said" 2> /dev/null || [ -e "$folder/status" ] || [ -e "$folder/lost" ]; do
-        sleep 1
+        sleep 2
     done
 }
 
@@ -67,7 +67,7 @@ edits() {
         steps+=("proved: $(libraries "$crate")" "tests/bodies/try_wrong.py --gate $crate")
         tried+=" $crate "
     done
-    lane "${steps[@]}"
+    between "${steps[@]}"
 }
 
 # tests/forms/other_machines.sh and other_programs.sh make each form anew; the release in this folder takes these, and that in another folder
@@ -94,10 +94,11 @@ first 'python3 tests/pages/facts_and_links.py' 'python3 tests/pages/definitions.
     'conformance/run --in-process reference/erd_reference.py' \
     'conformance/run --differences --in-process reference/erd_reference.py' \
     'conformance/run --entries --in-process reference/erd_reference.py' 'tests/bodies/try_wrong.py programs' \
-    'python3 tests/pages/site.py' 'tests/forms/make_try.sh'
+    'python3 tests/pages/site.py'
 echo 'Beside them `rt ci` proves the crates from the lowest to the highest, and names each one when it is proved.'
 proof 'tests/prove.sh'
 
+lane 'tests/forms/make_try.sh'
 edits erd_check erd_text erd_meaning erd_normal
 edits erd_compare erd_canon erd_program
 for crate in $(grep -l '^gate: ' $(grep -lx 'noticed by: a contract' tests/bodies/lists/*.txt) | xargs -n 1 basename -s .txt); do
@@ -107,10 +108,10 @@ done
 lane 'proved: erd_canon' 'tests/library/c_library.sh' 'python3 tests/library/lists_agree.py 500' 'python3 tests/library/ballots_agree.py 200'
 
 # The packages of both languages take the forms that are made first, and stand beside the programs for other machines. A release makes
-# the packages too, so it comes when they are done.
-longest 'program:' 'library:' 'tests/forms/other_machines.sh' 'tests/forms/other_programs.sh' 'ended: tests/fuzz/fuzz.sh' \
+# the packages too, so it comes when they are done. The lane that ends with it takes longest, so other lanes give way to both.
+first 'program:' 'library:' 'tests/forms/other_machines.sh' 'tests/forms/other_programs.sh' 'ended: tests/fuzz/fuzz.sh' \
     'tests/forms/program_packages.sh' 'tests/forms/release_files.sh' 'tests/forms/installed_alone.sh'
-lane 'ended: tests/forms/other_machines.sh' 'ended: tests/library/c_library.sh' 'tests/forms/language_examples.sh' \
+first 'ended: tests/forms/other_machines.sh' 'ended: tests/library/c_library.sh' 'tests/forms/language_examples.sh' \
     'tests/forms/javascript_package.sh' 'tests/forms/python_package.sh' 'python3 tests/prepare/steps.py' 'tests/fuzz/fuzz.sh'
 
 # The page needs erd.wasm alone, and the wrong lines need what the other forms have made, so they run beside the packages.

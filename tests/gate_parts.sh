@@ -59,12 +59,12 @@ lane() {
     gives_way=5 first "$@"
 }
 
-# longest STEP ..: the same for the lane that takes longest, to which the others give way, so that it doesn't end alone
-longest() {
-    gives_way=3 first "$@"
+# between STEP ..: the same for parts that nothing waits for, which run where the others leave a processor idle
+between() {
+    gives_way=15 first "$@"
 }
 
-# first STEP ..: the same for parts that give way to none
+# first STEP ..: the same for parts that give way to none, so that they tell at once what fails, or do not end alone
 first() {
     local step steps=()
     for step in "$@"; do
@@ -99,14 +99,16 @@ proof() {
     tail -n +1 -f --pid="$(cat "$proof/lane")" "$proof/said" &
 }
 
-# await: waits until all lanes have ended, and shows of each part, once it has ended, its counts and what failed
+# await: waits until all lanes have ended, and shows of each part, once it has ended, its counts and what failed. It looks at all parts
+# each second, and begins no program for it: that took a seventh of a processor
 await() {
-    local running=yes folder
+    local running=yes folder lane
     while [ -n "$running" ]; do
         running=$(jobs -rp)
         for folder in "$results"/[0-9]*/; do
             if [ ! -e "$folder/status" ]; then
-                grep -qxF "$(cat "$folder/lane")" <<< "$running" || : > "$folder/lost"
+                read -r lane < "$folder/lane"
+                [[ $'\n'$running$'\n' == *$'\n'$lane$'\n'* ]] || : > "$folder/lost"
             elif [ ! -e "$folder/shown" ]; then
                 show "$folder"
                 : > "$folder/shown"
@@ -140,7 +142,7 @@ keep() {
 ended() {
     local folder
     folder=$(dirname "$(grep -lxF "$*" "$results"/[0-9]*/command)")
-    until [ -e "$folder/status" ] || [ -e "$folder/lost" ]; do sleep 1; done
+    until [ -e "$folder/status" ] || [ -e "$folder/lost" ]; do sleep 2; done
 }
 
 # missing WHY: what should be there isn't, which is a failure

@@ -115,7 +115,7 @@ stop() { return 1; }
 first './good' './bad'
 proof './prove'
 lane './mute' 'ended: ./bad' './last'
-longest 'stop: here' './never'
+between 'stop: here' './never'
 await
 sum_up
 END
