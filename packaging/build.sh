@@ -45,7 +45,7 @@ reason() {
 
 # cost CRATE: the processor seconds of its proof from nothing
 cost() {
-    sed -n "s/^| \`$1\` | \([0-9]*\) .*/\1/p" CONTRIBUTING.md
+    awk -v crate="$1" '$1 == crate { seconds = $2 } END { print seconds + 0 }' packaging/proof-seconds.txt
 }
 
 # Says how long this takes, by the processors that there are and the work that is kept. A second processor saves a third of the

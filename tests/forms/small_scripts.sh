@@ -157,12 +157,7 @@ notes 'and none is begun' 'module.sh '
 mkdir -p "$tree/tests/shared"
 cp tests/shared/counting.sh "$tree/tests/shared"
 printf '%s\n' 'low:' 'mid: low json' 'erd: clap mid  # the program' 'erd_c staticlib: mid' > "$tree/crates.txt"
-cat > "$tree/CONTRIBUTING.md" << 'END'
-| `low` | 600 |
-| `mid` | 1200 |
-| `erd` | 4200 |
-| `erd_c` | 9000 |
-END
+printf '%s\n' '# Seconds.' 'low 600' 'mid 1200' 'erd 4200' 'erd_c 9000' > "$tree/packaging/proof-seconds.txt"
 fake "$tree/packaging/room.sh"
 fake "$tools/nproc" 'echo "$PROCESSORS"'
 fake "$tools/rt" 'crate=$(basename "$PWD"); echo "rt $* in $crate" >> "$ASKED"; { echo "logic=proved functions=3 more"; [ "$crate" != "${OPEN:-}" ] ||
