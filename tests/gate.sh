@@ -60,14 +60,14 @@ libraries() {
     sed -n "s/#.*//; s/^$1\( [a-z]*\)*:\(.*\)/\2/p" crates.txt | grep -o 'erd_[a-z]*' | tr '\n' ' '
 }
 
-# edits CRATE ..: begins to try the wrong bodies of the gate, those of one crate after another
+# edits KIND CRATE ..: begins to try the wrong bodies of the gate, those of one crate after another, in a lane of this kind
 edits() {
     local crate steps=()
-    for crate in "$@"; do
+    for crate in "${@:2}"; do
         steps+=("proved: $(libraries "$crate")" "tests/bodies/try_wrong.py --gate $crate")
         tried+=" $crate "
     done
-    between "${steps[@]}"
+    "$1" "${steps[@]}"
 }
 
 # tests/forms/other_machines.sh and other_programs.sh make each form anew; the release in this folder takes these, and that in another folder
@@ -99,8 +99,10 @@ echo 'Beside them `rt ci` proves the crates from the lowest to the highest, and 
 proof 'tests/prove.sh'
 
 lane 'tests/forms/make_try.sh'
-edits erd_check erd_text erd_meaning erd_normal
-edits erd_compare erd_canon erd_program
+# While erd_canon is proved, for which nothing else can be ready, the wrong bodies up to it have a processor for themselves.
+edits between erd_check erd_text erd_meaning erd_normal
+edits between erd_compare erd_canon
+edits lane erd_program
 for crate in $(grep -l '^gate: ' $(grep -lx 'noticed by: a contract' tests/bodies/lists/*.txt) | xargs -n 1 basename -s .txt); do
     [[ $tried == *" $crate "* ]] || missing "tests/bodies/lists/$crate.txt: the wrong bodies of the gate are not tried"
 done
