@@ -1,58 +1,59 @@
-"""Prints what the proof of each function of a crate costs, in processor seconds, the costliest first.
+"""Prints what the check of a crate costs: in seconds, first of each function and each folder of lemmas, then of single modules, the costliest
+first. The modules of a function are its code as the logic has it (`Code`, `Lts`), what the borrow checker leaves (`Tie`), and its proof.
 
 usage: proofs.py CRATE [WORD ..]
 
-The words go to `rt check`, as `--test`, or `--only` and a path. A function that an earlier check has proved costs nothing, so for all of
-them delete crates/CRATE/out first. What the check itself says stays in out/proofs/CRATE.log.
+The words go to `rt check`, as `--test`, or `--only` and a path. What an earlier check has kept costs nothing, so for all of it delete
+crates/CRATE/out first. The prover keeps each module once it is checked, and the seconds are those of the clock between two of them, so run
+nothing beside it. What the check itself says stays in out/proofs/CRATE.log.
 """
-import os
+import collections
 import pathlib
-import re
 import subprocess
 import sys
+import time
 
 ROOT = pathlib.Path(__file__).resolve().parents[2]
-CHECKED = re.compile(r'checked (\S+), \d+ of \d+')
-# In /proc/PID/stat, behind the name: the session, and the ticks of the processor, those of children that have ended among them.
-SESSION, TICKS = 3, slice(11, 15)
+MOST_MODULES = 60
 
 
-def spent(session):
-    """The processor seconds of the processes of a session until now."""
-    ticks = 0
-    for folder in pathlib.Path('/proc').glob('[0-9]*'):
-        try:
-            words = (folder / 'stat').read_text().rpartition(')')[2].split()
-        except OSError:
-            continue
-        if int(words[SESSION]) == session:
-            ticks += sum(map(int, words[TICKS]))
-    return ticks / os.sysconf('SC_CLK_TCK')
-
-
-def costs(crate, words):
-    """The seconds until each function was proved since the one before, and the status of the check."""
+def check(crate, words):
+    """Checks the crate with one job, and returns the time at which it began and the status."""
     log = ROOT / 'out' / 'proofs' / f'{crate}.log'
     log.parent.mkdir(parents=True, exist_ok=True)
-    check = subprocess.Popen(['rt', 'check', '--jobs', '1', '--progress', *words], cwd=ROOT / 'crates' / crate, text=True,
-                             stdout=subprocess.PIPE, stderr=subprocess.STDOUT, start_new_session=True)
-    found, before = [], 0
+    began = time.time()
     with log.open('w', encoding='utf-8') as said:
-        for line in check.stdout:
-            said.write(line)
-            function = CHECKED.match(line)
-            if function or line.startswith('so far: '):
-                now = spent(check.pid)
-                found.append((now - before, function[1] if function else 'the code, before any proof'))
-                before = now
-    return found, check.wait()
+        ran = subprocess.run(['rt', 'check', '--jobs', '1', '--progress', *words], cwd=ROOT / 'crates' / crate, stdout=said,
+                             stderr=subprocess.STDOUT, check=False)
+    return began, ran.returncode
+
+
+def costs(crate, began):
+    """The modules that were kept since then, in their order, each with the seconds since the one before."""
+    kept = (path for path in (ROOT / 'crates' / crate / 'out' / 'incremental').rglob('*.oantt') if '.decls.' not in path.name)
+    before = began
+    for at, name in sorted((path.stat().st_mtime, path.name) for path in kept):
+        if at >= began:
+            is_first = before == began
+            yield at - before, 'the code, before any module' if is_first else name.removeprefix(f'Rattle-{crate}-').removesuffix('.oantt')
+            before = at
+
+
+def table(found):
+    """Prints these costs."""
+    for name, seconds in found:
+        print(f'{seconds:7.1f} s  {name}')
 
 
 def main(crate, words):
-    found, status = costs(crate, words)
-    for seconds, function in sorted(found, reverse=True):
-        print(f'{seconds:7.1f} s  {function}')
-    print(f'{sum(seconds for seconds, _ in found):7.1f} s  {len(found)} of them')
+    began, status = check(crate, words)
+    modules, functions = collections.Counter(), collections.Counter()
+    for seconds, name in costs(crate, began):
+        modules[name] += seconds
+        functions[name.rpartition('.')[0] or name] += seconds
+    table(functions.most_common())
+    print(f'\n{sum(modules.values()):7.1f} s  {len(modules)} modules, of which cost most:')
+    table(modules.most_common(MOST_MODULES))
     return status
 
 
