@@ -99,7 +99,7 @@ echo 'Beside them `rt ci` proves the crates from the lowest to the highest, and 
 proof 'tests/prove.sh'
 
 lane 'tests/forms/make_try.sh'
-# While erd_canon is proved, for which nothing else can be ready, the wrong bodies up to it have a processor for themselves.
+# While erd_canon is proved, nothing else is ready, so the wrong bodies up to it have a processor for themselves.
 edits between erd_check erd_text erd_meaning erd_normal
 edits between erd_compare erd_canon
 edits lane erd_program
@@ -110,7 +110,7 @@ done
 lane 'proved: erd_canon' 'tests/library/c_library.sh' 'python3 tests/library/lists_agree.py 500' 'python3 tests/library/ballots_agree.py 200'
 
 # The packages of both languages take the forms that are made first, and stand beside the programs for other machines. A release makes
-# the packages too, so it comes when they are done. The lane that ends with it takes longest, so other lanes give way to both.
+# the packages too, so it comes when they are done. It ends the longest lane, and other lanes give way to these two.
 first 'program:' 'library:' 'tests/forms/other_machines.sh' 'tests/forms/other_programs.sh' 'ended: tests/fuzz/fuzz.sh' \
     'tests/forms/program_packages.sh' 'tests/forms/release_files.sh' 'tests/forms/installed_alone.sh'
 first 'ended: tests/forms/other_machines.sh' 'ended: tests/library/c_library.sh' 'tests/forms/language_examples.sh' \

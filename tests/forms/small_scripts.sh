@@ -199,6 +199,18 @@ equal 'the log has all of it, and nothing of before' "$(wc -l < "$tree/out/build
 equal 'the program of before stays' "$(cat "$tree/erd")" before
 built '31 minutes on 1 processors' 1 OPEN=low QUIET=true
 equal 'one that does not say why: its last words' "$(sed -n '4,8p' "$work/out" | paste -sd ' ')" '16 17 18 19 20'
+
+# The crates of the program, as the script finds them itself, are those whose seconds stand in the real file.
+cp crates.txt "$tree"
+cp packaging/proof-seconds.txt "$tree/packaging"
+for crate in crates/*/; do
+    mkdir -p "$tree/$crate"{out,src}
+done
+fresh env PROCESSORS=4 packaging/build.sh
+expect 'make erd of the real crates' 0
+said 'it says nothing of an error' "$(cat "$work/err")"
+equal 'each of them has its seconds' "$(sed -n 's/: crate .*//p' "$work/out" | LC_ALL=C sort | paste -sd ' ')" \
+    "$(awk '!/^#/ && $2 > 0 { print $1 }' packaging/proof-seconds.txt | LC_ALL=C sort | paste -sd ' ')"
 fake "$tools/rt" 'echo "$KIT/page.html"'
 
 # The profile anew: of the program and of the library, on each report, and of nothing else.

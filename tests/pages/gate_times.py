@@ -1,7 +1,6 @@
 """Holds the table of parts in CONTRIBUTING.md against tests/gate.sh, its seconds against those of the last run of the gate here, which
-leaves them in out/gate-costs, and the minutes that the README tells against those of the page; and that packaging/proof-seconds.txt, by which
-`make erd` tells how long it takes, has each crate of the program. One line a case that fails, and at the end the counts. With --write the
-seconds of that run are written into the table."""
+leaves them in out/gate-costs, and the minutes that the README tells against those of the page. One line a case that fails, and at the end the
+counts. With --write the seconds of that run are written into the table."""
 import re
 import sys
 
@@ -67,25 +66,6 @@ def minutes():
             re.findall(r'^make test .*: about (\d+) minutes on 4 idle cores$', readme, re.M))
 
 
-def crates():
-    """The program and the crates that it stands on, by crates.txt."""
-    text = (ROOT / 'crates.txt').read_text(encoding='utf-8')
-    below = {found[1]: found[2].split() for found in re.finditer(r'^(\w+)(?: \w+)*:([^#\n]*)', text, re.M)}
-    found, left = set(), ['erd']
-    while left:
-        name = left.pop()
-        if name in below and name not in found:
-            found.add(name)
-            left += below[name]
-    return sorted(found)
-
-
-def crates_with_seconds():
-    """The crates of packaging/proof-seconds.txt, each with seconds."""
-    text = (ROOT / 'packaging' / 'proof-seconds.txt').read_text(encoding='utf-8')
-    return sorted(re.findall(r'^(\w+) [1-9]\d*$', text, re.M))
-
-
 def parts():
     """The commands of the gate's lanes."""
     text = (ROOT / 'tests' / 'gate.sh').read_text(encoding='utf-8')
@@ -100,7 +80,6 @@ def cases():
     found, told = minutes()
     yield 'the minutes of the gate, told once', 1, len(found)
     yield 'the minutes that the README tells', found, told
-    yield 'the crates whose seconds are known', crates(), crates_with_seconds()
     if not COSTS.exists():
         print('skipped the seconds of the gate: there is no run of it here')
         return
