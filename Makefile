@@ -7,7 +7,7 @@
 # builds again and compares, and `make site` makes the pages as HTML. docs/INSTALL.md describes these.
 SHELL := /bin/bash
 SOURCES := crates.txt $(shell find crates \
-    \( -path crates/erd_rows -o -path crates/round_trip -o -path crates/erd_c -o -path crates/uses \) -prune \
+    \( -path crates/erd_rows -o -path crates/round_trip -o -path crates/erd_c -o -path crates/lower_uses -o -path crates/uses \) -prune \
     -o -name out -prune -o -name must-fail -prune -o -type f -print)
 
 prefix = $(or $(PREFIX),/usr/local)

@@ -71,7 +71,7 @@ edits() {
 }
 
 # tests/forms/other_machines.sh and other_programs.sh make each form anew; the release in this folder takes these, and that in another folder
-# makes them once more.
+# makes most of them once more.
 export FORMS_ARE_MADE=yes
 
 # Without llvm-profdata, what is handed on is made without a profile, and tests/forms/profiled_program.sh says so.
@@ -98,8 +98,8 @@ first 'python3 tests/pages/facts_and_links.py' 'python3 tests/pages/definitions.
 echo 'Beside them `rt ci` proves the crates from the lowest to the highest, and names each one when it is proved.'
 proof 'tests/prove.sh'
 
-lane 'tests/forms/make_try.sh'
-# While erd_canon is proved, nothing else is ready, so the wrong bodies up to it have a processor for themselves.
+# While erd_check is proved, nothing else is ready, and while erd_canon is, little: what nothing waits for has a processor then.
+between 'tests/forms/make_try.sh'
 edits between erd_check erd_text erd_meaning erd_normal
 edits between erd_compare erd_canon
 edits lane erd_program

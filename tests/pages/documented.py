@@ -1,8 +1,8 @@
-"""Holds the examples in doc comments against the crate `uses`: each public call of the library has one, and its lines stand
-one after another in a source of `uses`, where they are run. Only white space may differ, and `assert_eq!` of two values may stand in
-`uses` as `assert!` that they are equal: the first one prints both, which costs more to prove than the rest of an example. What an
-example only asserts may stand in a condition of `uses`, joined by `&&`, which costs a third of an assertion, and what it asserts of `call()?`
-as a condition on `call() == Ok(..)`, which costs a tenth. One line a case that fails, and at the end the counts.
+"""Holds the examples in doc comments against the crates `uses` and `lower_uses`: each public call of the library has one, and its lines
+stand one after another in a source of theirs, where they are run. Only white space may differ, and `assert_eq!` of two values may stand
+there as `assert!` that they are equal: the first one prints both, which costs more to prove than the rest of an example. What an example
+only asserts may stand there in a condition, joined by `&&`, which costs a third of an assertion, and what it asserts of `call()?` as a
+condition on `call() == Ok(..)`, which costs a tenth. One line a case that fails, and at the end the counts.
 
 A public call is a function or a method of a type or trait that the root of a crate names. Laws take no arguments and run
 nothing, and a `Log` is seen by contracts alone, so these have no example.
@@ -15,6 +15,7 @@ from repository import ROOT
 from cases import tell_cases
 
 CRATES = ['erd_tables', 'erd_index', 'erd_check', 'erd_text', 'erd_meaning', 'erd_normal', 'erd_shown', 'erd_compare', 'erd_canon']
+USES = ['lower_uses', 'uses']
 CALL = re.compile(r'^( *)(pub )?fn (\w+)(?:<[^(]*>)?\(([^)]*)', re.M)
 OWNER = re.compile(r"^(?:impl(?:<[^{]*?>)? (?:\w+(?:<[^{]*>)? for )?|pub trait )(\w+)", re.M)
 
@@ -36,7 +37,7 @@ def as_assert(text):
 
 
 def is_in(example, source):
-    """Whether an example stands in a source of `uses`, both without white space: its lines, or in conditions what it asserts at its end."""
+    """Whether an example stands in a source of these crates, both without white space: its lines, or in conditions what it asserts at its end."""
     end = re.search(r'(assert!\(rt;((?!assert!).)*\);)*$', example).group()
     conditions = re.findall(r'assert!\(rt;(.*?)\);(?=assert!|$)', end)
     return example in source or example.removesuffix(end) in source and bool(end) and all(is_joined(it, source) for it in conditions)
@@ -95,13 +96,13 @@ def calls_of(crate):
 
 
 def cases():
-    sources = [bare(path.read_text(encoding='utf-8')) for path in (ROOT / 'crates' / 'uses' / 'src').rglob('*.rt')]
+    sources = [bare(path.read_text(encoding='utf-8')) for crate in USES for path in (ROOT / 'crates' / crate / 'src').rglob('*.rt')]
     for crate in CRATES:
         for name, doc in calls_of(crate):
             examples = re.findall(r'^```\n(.*?)^```$', doc, re.M | re.S)
             yield f'{name} has an example', True, bool(examples)
             missing = [example for example in examples if not any(is_in(bare(example), source) for source in sources)]
-            yield f'{name}: what is not in the crate uses', [], missing
+            yield f'{name}: what is not in the crates of uses', [], missing
 
 
 if __name__ == '__main__':

@@ -1,4 +1,4 @@
-//! Uses of the library, as a caller writes them. All of it is proved with the tests, and once.
+//! Uses of `erd_canon` and of `erd_prepare`, as a caller writes them. All of it is proved with the tests, and once.
 #![tactic(auto)]
 
 #[cfg(test)]

@@ -7,7 +7,7 @@ use std::alloc::Global;
 use std::process::Abort;
 use std::test::Fail;
 
-// The pointer of the report itself. The crate `uses` has one with steps.
+// The pointer of the report itself. The crate `lower_uses` has one with steps.
 #[test]
 fn pointer_of_the_report(rt: HostRuntime) -> Result<(), Fail> {
     let place = Place::of(Vec::new(rt.alloc()));

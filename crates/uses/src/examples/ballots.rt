@@ -1,15 +1,16 @@
 //! Examples of the calls on ballots.
 use crate::examples::engines::answers;
-use crate::examples::shown::{
-    BALLOT, BESIDE, DIFFERENCE_LINES, DIFFERS, HEAD_LINE, HEADS, UNLISTED,
-};
 use erd_canon::{
     BallotsAsked, Outcome, PairCommand, ReadFrom, ReportCommand, WriteTo,
     ballot_differences_data_with, ballots_beside_data_with, ballots_data_with, run_report,
 };
+use lower_uses::{BALLOT, BESIDE, DIFFERENCE_LINES, DIFFERS, HEADS, UNLISTED};
 use std::alloc::Global;
 use std::process::Abort;
 use std::test::Fail;
+
+// The line for the ballots of the report.
+const HEAD_LINE: &str = "ballot [\"local-level\",\"\",\"B1\"]: 1 lines\n";
 
 #[test]
 fn ballots_as_data(rt: HostRuntime) -> Result<(), Fail> {

@@ -1,10 +1,10 @@
 //! Examples of the calls of `erd_canon` on bytes.
-use crate::tests::{BARE, CANONICAL, OTHER_NAME, OTHER_SPELLING, REPORT};
 use erd_canon::{
     Refusal, Side, canonical, canonical_with, check_bytes, check_bytes_with, compare_bytes,
     compare_bytes_with,
 };
 use erd_compare::{Difference, Part};
+use lower_uses::{BARE, CANONICAL, OTHER_NAME, OTHER_SPELLING, REPORT};
 use std::alloc::Global;
 use std::process::Abort;
 use std::test::Fail;

@@ -1,7 +1,7 @@
 //! Examples of the calls that answer as data.
-use crate::tests::{BARE, OTHER_NAME, REPORT};
 use erd_canon::{check_data_with, compare_bytes, compare_data_with, differences_data_with};
 use erd_compare::DetailedDifference;
+use lower_uses::{BARE, OTHER_NAME, REPORT};
 use std::alloc::Global;
 use std::process::Abort;
 use std::test::Fail;

@@ -1,11 +1,11 @@
 //! Examples of the engines and the command line of `erd_canon`.
-use crate::tests::{CANONICAL, OTHER_NAME, REPORT};
 use erd_canon::{
     Disposal, Free, Outcome, PairCommand, ReadFrom, ReportCommand, Request, RunFault, Sink, Source,
     WriteTo, command_line, command_line_data, run_canon, run_canon_disposing, run_canon_with,
     run_check, run_check_disposing, run_check_with, run_compare, run_compare_disposing,
     run_compare_with, run_pair, run_report, write_out,
 };
+use lower_uses::{CANONICAL, OTHER_NAME, REPORT};
 use std::alloc::{AllocError, Global};
 use std::mem;
 use std::process::Abort;

@@ -1,9 +1,9 @@
 //! Examples of the calls that answer with a piece of a list.
-use crate::tests::{BARE, OTHER_NAME, REPORT};
 use erd_canon::{
     Piece, canonical_data_piece, check_data_piece, compare_data_piece, differences_data_piece,
     differences_values_piece,
 };
+use lower_uses::{BARE, OTHER_NAME, REPORT};
 use std::test::Fail;
 
 #[test]

@@ -1,9 +1,9 @@
 //! Examples of the engines that prepare a report.
-use crate::tests::REPORT;
 use erd_canon::{
     Outcome, ReadFrom, WriteTo, run_prepare, run_prepare_list, run_prepare_report, steps_asked,
 };
 use erd_prepare::StepName;
+use lower_uses::REPORT;
 use std::process::Abort;
 use std::test::Fail;
 

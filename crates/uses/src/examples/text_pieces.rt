@@ -1,8 +1,8 @@
 //! Examples of the calls that answer with a piece of a list as lines.
-use crate::tests::{BARE, OTHER_NAME, REPORT};
 use erd_canon::{
     Piece, canonical_text_piece, check_text_piece, compare_text_piece, differences_text_piece,
 };
+use lower_uses::{BARE, OTHER_NAME, REPORT};
 use std::test::Fail;
 
 #[test]

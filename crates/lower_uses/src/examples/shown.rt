@@ -1,5 +1,6 @@
 //! Examples of `erd_shown`.
 use crate::callers::report_of;
+use crate::small_reports::{BALLOT, BESIDE, DIFFERENCE_LINES, DIFFERS, HEADS, UNLISTED};
 use erd_meaning::Report;
 use erd_shown::{
     Row, ballot_differences_lines, ballot_differences_text, ballot_text, ballots_beside_text,
@@ -13,38 +14,6 @@ use serde_json::Value;
 use std::alloc::Global;
 use std::process::Abort;
 use std::test::Fail;
-
-// A county with an election that has a key, a candidate, a contest with two selections, and a ballot that lists one of them.
-pub(crate) const BALLOT: &str = concat!(
-    r#"{"@type":"ElectionResults.ElectionReport","Status":"pre-election","GpUnit":[{"@id":"u7","@type":"ElectionResults.ReportingUnit","#,
-    r#""Type":"county","ExternalIdentifier":[{"@type":"ElectionResults.ExternalIdentifier","Type":"fips","Value":"20"}]}],"#,
-    r#""Election":[{"@type":"ElectionResults.Election","Name":"Test","Type":"general","StartDate":"2026-11-03","EndDate":"2026-11-03","#,
-    r#""ElectionScopeId":"u7","ExternalIdentifier":[{"@type":"ElectionResults.ExternalIdentifier","Type":"local-level","Value":"E1"}],"#,
-    r#""Candidate":[{"@id":"k1","@type":"ElectionResults.Candidate","BallotName":"Ann","#,
-    r#""ExternalIdentifier":[{"@type":"ElectionResults.ExternalIdentifier","Type":"local-level","Value":"K1"}]}],"#,
-    r#""Contest":[{"@id":"c1","@type":"ElectionResults.CandidateContest","Name":"Mayor","ElectionDistrictId":"u7","VotesAllowed":1,"#,
-    r#""ExternalIdentifier":[{"@type":"ElectionResults.ExternalIdentifier","Type":"local-level","Value":"C1"}],"#,
-    r#""ContestSelection":[{"@id":"s2","@type":"ElectionResults.CandidateSelection","IsWriteIn":true},{"@id":"s1","#,
-    r#""@type":"ElectionResults.CandidateSelection","CandidateIds":["k1"]}]}],"BallotStyle":[{"@type":"ElectionResults.BallotStyle","#,
-    r#""GpUnitIds":["u7"],"ExternalIdentifier":[{"@type":"ElectionResults.ExternalIdentifier","Type":"local-level","Value":"B1"}],"#,
-    r#""OrderedContent":[{"@type":"ElectionResults.OrderedContest","ContestId":"c1","OrderedContestSelectionIds":["s1"]}]}]}]}"#,
-);
-
-// The same, and its ballot lists no selections.
-pub(crate) const UNLISTED: &str = concat!(
-    r#"{"@type":"ElectionResults.ElectionReport","Status":"pre-election","GpUnit":[{"@id":"u7","@type":"ElectionResults.ReportingUnit","#,
-    r#""Type":"county","ExternalIdentifier":[{"@type":"ElectionResults.ExternalIdentifier","Type":"fips","Value":"20"}]}],"#,
-    r#""Election":[{"@type":"ElectionResults.Election","Name":"Test","Type":"general","StartDate":"2026-11-03","EndDate":"2026-11-03","#,
-    r#""ElectionScopeId":"u7","ExternalIdentifier":[{"@type":"ElectionResults.ExternalIdentifier","Type":"local-level","Value":"E1"}],"#,
-    r#""Candidate":[{"@id":"k1","@type":"ElectionResults.Candidate","BallotName":"Ann","#,
-    r#""ExternalIdentifier":[{"@type":"ElectionResults.ExternalIdentifier","Type":"local-level","Value":"K1"}]}],"#,
-    r#""Contest":[{"@id":"c1","@type":"ElectionResults.CandidateContest","Name":"Mayor","ElectionDistrictId":"u7","VotesAllowed":1,"#,
-    r#""ExternalIdentifier":[{"@type":"ElectionResults.ExternalIdentifier","Type":"local-level","Value":"C1"}],"#,
-    r#""ContestSelection":[{"@id":"s2","@type":"ElectionResults.CandidateSelection","IsWriteIn":true},{"@id":"s1","#,
-    r#""@type":"ElectionResults.CandidateSelection","CandidateIds":["k1"]}]}],"BallotStyle":[{"@type":"ElectionResults.BallotStyle","#,
-    r#""GpUnitIds":["u7"],"ExternalIdentifier":[{"@type":"ElectionResults.ExternalIdentifier","Type":"local-level","Value":"B1"}],"#,
-    r#""OrderedContent":[{"@type":"ElectionResults.OrderedContest","ContestId":"c1"}]}]}]}"#,
-);
 
 // What the contest means: its selections stand in the order of their names, with keys in place of references.
 const CONTEST: &str = concat!(
@@ -70,34 +39,6 @@ const BALLOT_LINES: &str = concat!(
     r#"{"election":["local-level","","E1"],"key":["local-level","","B1"],"lines":[{"depth":0,"listed":true,"#,
     r#""selections":[["ElectionResults.CandidateSelection",[["local-level","","K1"]],false,null,null,null]],"#,
     r#""what":["contest",["local-level","","C1"]]}],"parties":[],"units":[["fips","","20"]]}"#,
-);
-
-// The heads of the ballots: one style, with one line.
-pub(crate) const HEADS: &str =
-    r#"[{"at":0,"key":["local-level","","B1"],"lines":1,"parties":[],"units":[["fips","","20"]]}]"#;
-
-// The line for it.
-pub(crate) const HEAD_LINE: &str = "ballot [\"local-level\",\"\",\"B1\"]: 1 lines\n";
-
-// The lines for the style whose ballots differ: a ballot that lists no selections has all of the contest.
-pub(crate) const DIFFERENCE_LINES: &str = concat!(
-    "ballot [\"local-level\",\"\",\"B1\"]: differs\n  changed contest [\"local-level\",\"\",\"C1\"]\n",
-    "    added selection [\"ElectionResults.CandidateSelection\",[],true,null,null,null]\n",
-);
-
-// The style whose ballots differ, where the other one lists no selections.
-pub(crate) const DIFFERS: &str = concat!(
-    r#"[{"below":"  changed contest [\"local-level\",\"\",\"C1\"]\n    added selection [\"ElectionResults.CandidateSelection\","#,
-    r#"[],true,null,null,null]\n","key":["local-level","","B1"],"left":0,"right":0}]"#,
-);
-
-// The ballot beside itself.
-pub(crate) const BESIDE: &str = concat!(
-    r#"{"left":[{"depth":0,"listed":true,"selections":[["ElectionResults.CandidateSelection",[["local-level","","#,
-    r#""K1"]],false,null,null,null]],"what":["contest",["local-level","","C1"]]}],"right":[{"depth":0,"listed":true,"#,
-    r#""selections":[["ElectionResults.CandidateSelection",[["local-level","","K1"]],false,null,null,null]],"what":["contest","#,
-    r#"["local-level","","C1"]]}],"rows":[{"how":"both","left":0,"right":0,"selections":[{"how":"both","#,
-    r#""name":["ElectionResults.CandidateSelection",[["local-level","","K1"]],false,null,null,null]}]}]}"#,
 );
 
 fn no_header(rt: &impl Abort, alloc: Global, report: &Report) -> Result<(), Fail> {
