@@ -124,16 +124,26 @@ pub(crate) fn selection_value(
 ) -> Result<Value, AllocError>
     ensures { IfOk result (λ value. view value ≡ selection_data (record { name = name.now; how = how.now })) }
 {
-    let name = name_value(alloc, name)?;
     match how {
-        How::OnlyLeft => json!(in alloc; {"how": "only left", "name": name}),
-        How::OnlyRight => json!(in alloc; {"how": "only right", "name": name}),
-        How::OtherClass => json!(in alloc; {"how": "other class", "name": name}),
+        How::OnlyLeft => selection_without_member(alloc, name, "only left"),
+        How::OnlyRight => selection_without_member(alloc, name, "only right"),
+        How::OtherClass => selection_without_member(alloc, name, "other class"),
         How::Member(member) => {
             let member = member.as_str();
-            json!(in alloc; {"how": "member", "member": member, "name": name})
+            json!(in alloc; {"how": "member", "member": member, "name": name_value(alloc, name)?})
         }
     }
+}
+
+/// Returns the difference of two selections with this name, which is not in a member, as a JSON object.
+fn selection_without_member(
+    alloc: Global,
+    name: &SelectionName,
+    how: &str,
+) -> Result<Value, AllocError>
+    ensures { IfOk result (λ value. view value ≡ object (member (codes "how") (string how.now) (member (codes "name") (name_data name.now) no_members))) }
+{
+    json!(in alloc; {"how": how, "name": name_value(alloc, name)?})
 }
 
 /// Returns the name of a selection as the JSON array of its six parts.

@@ -75,11 +75,15 @@ is_known_by several (role.OfFamily f) = true
 is_known_by several role.Election = several
 is_known_by several r = false
 
+-- An identifier of the Type `other`, given its OtherType.
+abbrev pub other_identifier : List ℕ → List ℕ → Data
+other_identifier other_type text =
+    object (member (codes "@type") (string (codes "ElectionResults.ExternalIdentifier")) (member (codes "OtherType") (string other_type)
+    (member (codes "Type") (string (codes "other")) (member (codes "Value") (string text) no_members))))
+
 -- The list of one identifier.
 abbrev pub name_identifier : List ℕ → Data
-name_identifier text =
-    array (item (object (member (codes "@type") (string (codes "ElectionResults.ExternalIdentifier")) (member (codes "OtherType") (string (codes "name"))
-    (member (codes "Type") (string (codes "other")) (member (codes "Value") (string text) no_members))))) no_items)
+name_identifier text = array (item (other_identifier (codes "name") text) no_items)
 
 -- What is put in for a name: nothing, if it is empty.
 abbrev pub identifier_of_name : List ℕ → List (List ℕ × Data)

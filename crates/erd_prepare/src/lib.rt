@@ -12,6 +12,7 @@ mod devices;
 mod engine;
 mod geography;
 mod gone_candidates;
+mod identifiers;
 mod kinds;
 mod known_objects;
 mod laws;

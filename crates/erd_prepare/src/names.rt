@@ -10,6 +10,7 @@ ghost use Rattle.erd_prepare.specs.Rules.{prepared, seen, told};
 
 use crate::asked::scope_in;
 use crate::engine::{Done, prepare};
+use crate::identifiers::other_identifier;
 use crate::known_objects::KnownObject;
 use crate::mender::Mender;
 use erd_check::path::Path;
@@ -151,21 +152,17 @@ fn identifier_of_name(alloc: Global, text: String) -> Result<Vec<(String, Value)
 {
     let mut puts = Vec::new(alloc);
     if !text.is_empty() {
-        let identifiers = name_identifier(alloc, text)?;
+        let identifiers = name_identifier(alloc, text.as_str())?;
         puts.push((String::from_str(alloc, "ExternalIdentifier")?, identifiers))?;
     }
     Ok(puts)
 }
 
-fn name_identifier(alloc: Global, text: String) -> Result<Value, AllocError>
-    ensures { IfOk result (λ v. view v ≡ name_identifier (string_bytes text)) }
+fn name_identifier(alloc: Global, text: &str) -> Result<Value, AllocError>
+    ensures { IfOk result (λ v. view v ≡ name_identifier text.now) }
 {
-    json!(in alloc; [{
-        "@type": "ElectionResults.ExternalIdentifier",
-        "OtherType": "name",
-        "Type": "other",
-        "Value": text
-    }])
+    let identifier = other_identifier(alloc, "name", text)?;
+    json!(in alloc; [identifier])
 }
 
 fn name_text(alloc: Global, role: Role, object: &Value) -> Result<String, AllocError>

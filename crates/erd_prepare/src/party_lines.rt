@@ -4,10 +4,10 @@ ghost use Rattle.serde_json.specs.View.{view};
 ghost use Rattle.erd_prepare.specs.Steps.{IsStepDone};
 
 use crate::engine::Done;
+use crate::identifiers::{other_identifier, put_identifiers};
 use crate::left::{LeftReason, Planned, carry_out_planned};
 use crate::lines::{Lines, is_write_in};
 use crate::objects::{MOST_BYTES_IN_FRONT, PlacedObject};
-use crate::plan::Edit;
 use erd_tables::class::{Class, Family};
 use serde_json::{Value, json};
 use std::alloc::{AllocError, Global};
@@ -60,7 +60,7 @@ fn plan_group<'a>(
         if let Some(object) = lines.objects.at(*line) {
             if are_told {
                 let code = parties_of(alloc, lines, object)?;
-                put_code(alloc, object, code, planned)?;
+                put_code(alloc, object, code.as_str(), planned)?;
             } else {
                 planned.leave(object.known.place.clone()?, LeftReason::NothingTells)?;
             }
@@ -99,19 +99,13 @@ fn parties_of<'a>(
 fn put_code<'a>(
     alloc: Global,
     line: &PlacedObject<'a>,
-    code: String,
+    code: &str,
     planned: &mut Planned,
 ) -> Result<(), AllocError> {
     if code.is_empty() {
         return Ok(());
     }
-    let identifiers = json!(in alloc; [{
-        "@type": "ElectionResults.ExternalIdentifier",
-        "OtherType": "endorsement",
-        "Type": "other",
-        "Value": code
-    }])?;
-    let name = String::from_str(alloc, "ExternalIdentifier")?;
-    let edit = Edit::PutIn(name, identifiers);
-    planned.plan.add(line.known.place.clone()?, edit)
+    let place = line.known.place.clone()?;
+    let identifier = other_identifier(alloc, "endorsement", code)?;
+    put_identifiers(alloc, place, json!(in alloc; [identifier])?, planned)
 }

@@ -240,18 +240,10 @@ fn placed_change(alloc: Global, change: &Change, place: &Vec<Step>) -> Result<Va
     let place = place_value(alloc, place)?;
     match (&change.before, &change.after) {
         (Some(before), Some(after)) => {
-            let before = before.clone()?;
-            let after = after.clone()?;
             json!(in alloc; {"after": after, "before": before, "place": place})
         }
-        (Some(before), None) => {
-            let before = before.clone()?;
-            json!(in alloc; {"before": before, "place": place})
-        }
-        (None, Some(after)) => {
-            let after = after.clone()?;
-            json!(in alloc; {"after": after, "place": place})
-        }
+        (Some(before), None) => json!(in alloc; {"before": before, "place": place}),
+        (None, Some(after)) => json!(in alloc; {"after": after, "place": place}),
         (None, None) => json!(in alloc; {"place": place}),
     }
 }

@@ -4,6 +4,7 @@ ghost use Rattle.serde_json.specs.View.{view};
 ghost use Rattle.erd_prepare.specs.Steps.{IsStepDone};
 
 use crate::engine::Done;
+use crate::identifiers::{other_identifier, put_identifiers};
 use crate::known_objects::{KnownObject, known_objects};
 use crate::left::{LeftReason, Planned, carry_out_planned};
 use crate::plan::Edit;
@@ -11,7 +12,7 @@ use crate::twin_ids::family_word;
 use crate::vendor_members::{ids_of, is_vendor_reference, place_of_member};
 use erd_check::values::is_empty_array;
 use erd_tables::class::{Family, Role};
-use serde_json::{Value, json};
+use serde_json::Value;
 use std::alloc::{AllocError, Global};
 use std::collections::{BTreeMap, BTreeSet};
 
@@ -57,9 +58,8 @@ fn plan_vendor_identifiers(alloc: Global, report: &Value) -> Result<Planned, All
     }
     for (number, identifiers) in given {
         if let Some(object) = objects.get(number) {
-            let name = String::from_str(alloc, "ExternalIdentifier")?;
-            let edit = Edit::PutIn(name, Value::Array(identifiers));
-            planned.plan.add(object.place.clone()?, edit)?;
+            let place = object.place.clone()?;
+            put_identifiers(alloc, place, Value::Array(identifiers), &mut planned)?;
         }
     }
     Ok(planned)
@@ -143,14 +143,7 @@ fn add_identifier<'a>(
     number: &Number<'a>,
     given: &mut BTreeMap<usize, Vec<Value>>,
 ) -> Result<(), AllocError> {
-    let kind = String::from_str(alloc, number.name)?;
-    let text = number.text.clone()?;
-    let identifier = json!(in alloc; {
-        "@type": "ElectionResults.ExternalIdentifier",
-        "OtherType": kind,
-        "Type": "other",
-        "Value": text
-    })?;
+    let identifier = other_identifier(alloc, number.name, number.text.as_str())?;
     if let Some(identifiers) = given.get_mut(&number.object) {
         identifiers.push(identifier)?;
         return Ok(());

@@ -132,10 +132,9 @@ fn preparing(
 {
     let (list, report) = flags;
     let file = file.as_str();
-    let steps = option_value(alloc, steps)?;
-    let prefer = option_value(alloc, prefer)?;
     json!(in alloc; {
-        "command": "prepare", "files": [file], "json": false, "list": list, "prefer": prefer, "report": report, "steps": steps
+        "command": "prepare", "files": [file], "json": false, "list": list, "prefer": option_value(alloc, prefer)?,
+        "report": report, "steps": option_value(alloc, steps)?
     })
 }
 
@@ -149,9 +148,8 @@ fn on_one_file(
 ) -> Result<Value, AllocError>
     ensures { IfOk result (λ value. view value ≡ command_data command.now (file.now ∷ []) json prefer.now) }
 {
-    let file = file.as_str();
-    let prefer = option_value(alloc, prefer.text())?;
-    json!(in alloc; {"command": command, "files": [file], "json": json, "prefer": prefer})
+    let (file, prefer) = (file.as_str(), prefer.text());
+    json!(in alloc; {"command": command, "files": [file], "json": json, "prefer": option_value(alloc, prefer)?})
 }
 
 // The JSON object of a command for two files.
@@ -166,8 +164,8 @@ fn on_two_files(
 {
     let left = files.0.as_str();
     let right = files.1.as_str();
-    let prefer = option_value(alloc, prefer.text())?;
-    json!(in alloc; {"command": command, "files": [left, right], "json": json, "prefer": prefer})
+    let prefer = prefer.text();
+    json!(in alloc; {"command": command, "files": [left, right], "json": json, "prefer": option_value(alloc, prefer)?})
 }
 
 // The JSON value of the text of an option: a string, or null if the option is not there.
