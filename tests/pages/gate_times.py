@@ -69,7 +69,7 @@ def minutes():
 def parts():
     """The commands of the gate's lanes."""
     text = (ROOT / 'tests' / 'gate.sh').read_text(encoding='utf-8')
-    found = {plain(command) for line in re.findall(r"^(?:lane|first|proof| {4}).*'.*$", text, re.M)
+    found = {plain(command) for line in re.findall(r"^(?:lane|first|between|proof| {4}).*'.*$", text, re.M)
              for command in re.findall(r"'([^']*)'", line) if '/' in command and ': ' not in command and 'lists/' not in command}
     return found | {EDITS}
 
