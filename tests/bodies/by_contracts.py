@@ -23,7 +23,7 @@ from wrong_lists import BadList
 
 TOP = os.path.dirname(os.path.dirname(os.path.dirname(os.path.abspath(__file__))))
 # What is proved with the tests alone.
-TESTED = ("uses",)
+TESTED = ("lower_uses", "uses")
 
 Group = collections.namedtuple("Group", "edits texts functions changed")
 

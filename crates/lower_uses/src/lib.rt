@@ -1,5 +1,5 @@
 //! Uses of the crates below `erd_canon`, as a caller writes them, and the small reports that they and the crate `uses` take.
-//! They are proved with the tests, and once: while `erd_canon` is proved, which the examples of `uses` need.
+//! They are proved with the tests, and once: beside `erd_canon`, for which the crate `uses` has to wait.
 #![tactic(auto)]
 
 #[cfg(test)]

@@ -1,5 +1,6 @@
 //! Small reports, and what calls answer for them.
 
+/// A county with an election.
 pub const REPORT: &str = concat!(
     r#"{"@type":"ElectionResults.ElectionReport","Status":"pre-election","GpUnit":[{"@id":"u7","@type":"ElectionResults.ReportingUnit","#,
     r#""Type":"county","ExternalIdentifier":[{"@type":"ElectionResults.ExternalIdentifier","Type":"local-level","Value":"U1"}]}],"#,
@@ -7,7 +8,7 @@ pub const REPORT: &str = concat!(
     r#""ElectionScopeId":"u7"}]}"#,
 );
 
-// The same report with another `@id`, and members in another order.
+/// The same report with another `@id`, and members in another order.
 pub const OTHER_SPELLING: &str = concat!(
     r#"{"Election":[{"@type":"ElectionResults.Election","ElectionScopeId":"county","EndDate":"2026-11-03","StartDate":"2026-11-03","#,
     r#""Type":"general","Name":"Test"}],"GpUnit":[{"Type":"county","@id":"county","@type":"ElectionResults.ReportingUnit","#,
@@ -15,7 +16,7 @@ pub const OTHER_SPELLING: &str = concat!(
     r#""Status":"pre-election","@type":"ElectionResults.ElectionReport"}"#,
 );
 
-// The same with another name of the election.
+/// The same report with another name of the election.
 pub const OTHER_NAME: &str = concat!(
     r#"{"@type":"ElectionResults.ElectionReport","Status":"pre-election","GpUnit":[{"@id":"u7","@type":"ElectionResults.ReportingUnit","#,
     r#""Type":"county","ExternalIdentifier":[{"@type":"ElectionResults.ExternalIdentifier","Type":"local-level","Value":"U1"}]}],"#,
@@ -23,9 +24,10 @@ pub const OTHER_NAME: &str = concat!(
     r#""ElectionScopeId":"u7"}]}"#,
 );
 
-// No member but its class.
+/// A report with no member but its class.
 pub const BARE: &str = r#"{"@type":"ElectionResults.ElectionReport"}"#;
 
+/// The canonical bytes of `REPORT`.
 pub const CANONICAL: &str = concat!(
     r#"{"@type":"ElectionResults.ElectionReport","Election":[{"@type":"ElectionResults.Election","ElectionScopeId":"gp1","#,
     r#""EndDate":"2026-11-03","Name":"Test","StartDate":"2026-11-03","Type":"general"}],"Format":"summary-contest","#,
@@ -35,7 +37,7 @@ pub const CANONICAL: &str = concat!(
     r#""VendorApplicationId":"canonical"}"#,
 );
 
-// A county with an election that has a key, a candidate, a contest with two selections, and a ballot that lists one of them.
+/// A county with an election that has a key, a candidate, a contest with two selections, and a ballot that lists one of them.
 pub const BALLOT: &str = concat!(
     r#"{"@type":"ElectionResults.ElectionReport","Status":"pre-election","GpUnit":[{"@id":"u7","@type":"ElectionResults.ReportingUnit","#,
     r#""Type":"county","ExternalIdentifier":[{"@type":"ElectionResults.ExternalIdentifier","Type":"fips","Value":"20"}]}],"#,
@@ -51,7 +53,7 @@ pub const BALLOT: &str = concat!(
     r#""OrderedContent":[{"@type":"ElectionResults.OrderedContest","ContestId":"c1","OrderedContestSelectionIds":["s1"]}]}]}]}"#,
 );
 
-// The same, and its ballot lists no selections.
+/// The same as `BALLOT`, and its ballot lists no selections.
 pub const UNLISTED: &str = concat!(
     r#"{"@type":"ElectionResults.ElectionReport","Status":"pre-election","GpUnit":[{"@id":"u7","@type":"ElectionResults.ReportingUnit","#,
     r#""Type":"county","ExternalIdentifier":[{"@type":"ElectionResults.ExternalIdentifier","Type":"fips","Value":"20"}]}],"#,
@@ -67,23 +69,23 @@ pub const UNLISTED: &str = concat!(
     r#""OrderedContent":[{"@type":"ElectionResults.OrderedContest","ContestId":"c1"}]}]}]}"#,
 );
 
-// The heads of the ballots: one style, with one line.
+/// The heads of the ballots of `BALLOT`: one style, with one line.
 pub const HEADS: &str =
     r#"[{"at":0,"key":["local-level","","B1"],"lines":1,"parties":[],"units":[["fips","","20"]]}]"#;
 
-// The lines for the style whose ballots differ: a ballot that lists no selections has all of the contest.
-pub const DIFFERENCE_LINES: &str = concat!(
-    "ballot [\"local-level\",\"\",\"B1\"]: differs\n  changed contest [\"local-level\",\"\",\"C1\"]\n",
-    "    added selection [\"ElectionResults.CandidateSelection\",[],true,null,null,null]\n",
-);
-
-// The style whose ballots differ, where the other one lists no selections.
+/// The style whose ballots differ in `BALLOT` and `UNLISTED`.
 pub const DIFFERS: &str = concat!(
     r#"[{"below":"  changed contest [\"local-level\",\"\",\"C1\"]\n    added selection [\"ElectionResults.CandidateSelection\","#,
     r#"[],true,null,null,null]\n","key":["local-level","","B1"],"left":0,"right":0}]"#,
 );
 
-// The ballot beside itself.
+/// The lines for this style: a ballot that lists no selections has all of the contest.
+pub const DIFFERENCE_LINES: &str = concat!(
+    "ballot [\"local-level\",\"\",\"B1\"]: differs\n  changed contest [\"local-level\",\"\",\"C1\"]\n",
+    "    added selection [\"ElectionResults.CandidateSelection\",[],true,null,null,null]\n",
+);
+
+/// The ballot of `BALLOT` beside itself.
 pub const BESIDE: &str = concat!(
     r#"{"left":[{"depth":0,"listed":true,"selections":[["ElectionResults.CandidateSelection",[["local-level","","#,
     r#""K1"]],false,null,null,null]],"what":["contest",["local-level","","C1"]]}],"right":[{"depth":0,"listed":true,"#,
