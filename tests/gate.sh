@@ -71,7 +71,7 @@ edits() {
 }
 
 # tests/forms/other_machines.sh and other_programs.sh make each form anew; the release in this folder takes these, and that in another folder
-# makes most of them once more.
+# makes them once more.
 export FORMS_ARE_MADE=yes
 
 # Without llvm-profdata, what is handed on is made without a profile, and tests/forms/profiled_program.sh says so.

@@ -1,7 +1,7 @@
 #!/usr/bin/env bash
 # Makes a release in this folder and in another one, compares every byte, and uses its files as a new user would: the packages of
 # the library, those for arm64 under qemu, and the archive for Windows under wine. With FORMS_ARE_MADE=yes the first one takes the forms that
-# are there. The other one takes two of them, and makes the others anew. One line a case.
+# are there; the other one makes each anew. One line a case.
 set -u
 . "$(dirname "$0")/../shared/start.sh" || exit 1
 . tests/shared/commands.sh
@@ -63,9 +63,8 @@ fi
 run python3 tests/forms/release_bill.py "$release" "$version"
 expect_text 'the bill of materials' 0 ''
 
-# The same in another folder. What is proved and compiled here serves there. So do the library for aarch64 and the program for Windows: the
-# program for aarch64 and the library for Windows are compiled in the same way, and are made there. Where CASES, as of wrong lines, leave this
-# out, the folder has the files that were made here.
+# The same in another folder. What is proved and compiled here serves there. Where CASES, as of wrong lines, leave this out, the folder
+# has the files that were made here.
 copy=$work/another/folder
 mkdir -p "$copy"/crates/erd{,_c}/out "$copy/out/c" "$copy/out/profiled"
 tar --create --exclude=./.git --exclude=./out --exclude=./crates --exclude=node_modules . | tar --extract --directory "$copy"
@@ -75,9 +74,7 @@ cp -p crates/erd/out/{erd,module.bc,module.bc.of} "$copy/crates/erd/out"
 cp -p out/c/* "$copy/out/c"
 [ "${PROFILE:-}" = no ] || cp -p out/profiled/* "$copy/out/profiled"
 if [[ -z ${CASES:-} || $CASES == *'a release in another folder'* ]]; then
-    mkdir -p "$copy/out/portable"
-    cp -a out/portable/{linux-aarch64,program-windows} "$copy/out/portable"
-    run env FORMS_ARE_MADE=yes "$copy/packaging/release.sh"
+    run env -u FORMS_ARE_MADE "$copy/packaging/release.sh"
     expect 'a release in another folder' 0
     for file in "$release"/*; do
         # What the other folder lacks of the source comes from git.

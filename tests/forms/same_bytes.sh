@@ -1,10 +1,9 @@
 #!/usr/bin/env bash
-# Whether the same source gives the same bytes: compiles the program and the code of the C library once more, in a copy of the repository
-# in another folder, and compares. Where the program of a release is here, that is compiled there, and the plain one only as far as to its
-# module of LLVM, which has to be the same: clang makes both of it. The code of the library is compared as its module too, for clang compiles
-# the same code in the program, and what the C side adds to it by its bytes. The libraries below are those that are proved here, so at most
-# the two crates on top are proved again, and where packaging/compile.sh has left its verdict on one, it isn't; that these libraries have no
-# path and no time is looked up. One line a case.
+# Whether the same source gives the same bytes: compiles the program and the C library once more, in a copy of the repository
+# in another folder, and compares. Where those of a release are here, these are compiled there, and the plain files only as far as to their
+# module of LLVM, which has to be the same: clang makes both of it. The libraries below are those that are proved here, so at most the two
+# crates on top are proved again, and where packaging/compile.sh has left its verdict on one, it isn't; that these libraries have no path
+# and no time is looked up. One line a case.
 set -u
 . "$(dirname "$0")/../shared/start.sh" || exit 1
 . tests/shared/commands.sh
@@ -15,50 +14,23 @@ mentions() {
     grep -rlF -e "$PWD/" "$@" 2> /dev/null | head -n 3
 }
 
-# has_module CRATE: whether the module of its code is here
-has_module() {
-    sha256sum --status --check "crates/$1/out/module.bc.of" 2> /dev/null
-}
-
-# same_module NAME CRATE: whether the last compilation in another folder was of the module that is here
-same_module() {
-    same_bytes "$1 is of the same module" "crates/$2/out/module.bc" "$copy/crates/$2/out/flagged/module.bc"
-}
-
-# program_elsewhere: the program of a release, of the code whose module is here; or where one of these is not here, the plain program
-program_elsewhere() {
-    said 'erd has no path' "$(mentions erd)"
-    if [ -e out/profiled/erd ] && has_module erd; then
-        cp erd "$copy/erd"
-        run "$copy/packaging/profiled.sh" erd
-        expect 'erd is compiled with the profile in another folder' 0
-        same_bytes 'erd with the profile has the same bytes' out/profiled/erd "$copy/out/profiled/erd"
-        same_module erd erd
-        said 'erd with the profile has no path' "$(mentions out/profiled/erd)"
+# made_elsewhere NAME CRATE CODE PLAIN COMMAND ..: the file of a release, of the code whose module is here; or where one of these is not
+# here, the plain file, by the command
+made_elsewhere() {
+    said "$1 has no path" "$(mentions "$4")"
+    if [ -e "out/profiled/$1" ] && sha256sum --status --check "crates/$2/out/module.bc.of" 2> /dev/null; then
+        mkdir -p "$copy/$(dirname "$4")" && cp "$4" "$copy/$4"
+        run "$copy/packaging/profiled.sh" "$1"
+        expect "$1 is compiled with the profile in another folder" 0
+        same_bytes "$1 with the profile has the same bytes" "out/profiled/$1" "$copy/out/profiled/$1"
+        same_bytes "$1 is of the same module" "crates/$2/out/module.bc" "$copy/crates/$2/out/flagged/module.bc"
+        said "$1 with the profile has no path" "$(mentions "out/profiled/$1")"
         return
     fi
-    echo 'note: erd is compiled without a profile, since the file of a release or the module of the code is not here'
-    run "$copy/packaging/compile.sh" erd
-    expect 'erd is compiled in another folder' 0
-    same_bytes 'erd has the same bytes' erd "$copy/crates/erd/out/erd"
-}
-
-# library_elsewhere: the C library, of the code whose module is here, which clang does not optimise there; or where the module is not
-# here, all of the library
-library_elsewhere() {
-    said 'liberd.a has no path' "$(mentions out/c/liberd.a out/profiled)"
-    if has_module erd_c; then
-        run "$copy/packaging/compile.sh" erd_c -O0
-        expect 'the code of liberd.a is compiled in another folder' 0
-        same_module liberd.a erd_c
-        cp crates/erd_c/out/liberd_c.a "$copy/crates/erd_c/out"
-        run "$copy/packaging/static_library.sh"
-    else
-        echo 'note: all of liberd.a is compiled, since the module of its code is not here'
-        run "$copy/packaging/library.sh"
-    fi
-    expect 'liberd.a is made in another folder' 0
-    same_bytes 'liberd.a has the same bytes' out/c/liberd.a "$copy/out/c/liberd.a"
+    echo "note: $1 is compiled without a profile, since the file of a release or the module of the code is not here"
+    run "$copy/${5}" "${@:6}"
+    expect "$1 is compiled in another folder" 0
+    same_bytes "$1 has the same bytes" "$4" "$copy/$3"
 }
 
 said 'the proved libraries have no path' "$(mentions crates/*/out/rlib)"
@@ -81,10 +53,10 @@ exec 8> crates/erd/out/compile.lock
 flock 8
 same_bytes 'the program is the one that is compiled' erd crates/erd/out/erd
 exec 8>&-
-program_elsewhere
+made_elsewhere erd erd crates/erd/out/erd erd packaging/compile.sh erd
 if [ -e out/c/liberd.a ]; then
     rm -f "$copy"/crates/*/out/rlib/stamp
-    library_elsewhere
+    made_elsewhere liberd.a erd_c out/c/liberd.a out/c/liberd.a packaging/library.sh
 else
     echo 'skipped the C library: there is none here; make library makes it'
 fi

@@ -75,7 +75,7 @@ is_known_by several (role.OfFamily f) = true
 is_known_by several role.Election = several
 is_known_by several r = false
 
--- An identifier of the Type `other`, given its OtherType.
+-- An identifier of the Type `other`, given its OtherType and its Value.
 abbrev pub other_identifier : List ℕ → List ℕ → Data
 other_identifier other_type text =
     object (member (codes "@type") (string (codes "ElectionResults.ExternalIdentifier")) (member (codes "OtherType") (string other_type)
