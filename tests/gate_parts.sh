@@ -124,10 +124,9 @@ show() {
     notable "$1"
 }
 
-# notable FOLDER: the lines of a part that say what failed, and what was skipped. A line that begins with a blank quotes what has noticed
-# a wrong line
+# notable FOLDER: the lines of a part that say what failed, and what was skipped
 notable() {
-    grep -aE '^(skipped|again:|notice:) |^(\S.*)?(FAILED|NOT REFUSED|NOT PROVED|BAD EDIT)' "$1/said" | head -c 2000 | sed "s|^|$(cat "$1/command"): |"
+    grep -aE '^(skipped|again:|notice:) |FAILED|NOT REFUSED|NOT PROVED|BAD EDIT' "$1/said" | head -c 2000 | sed "s|^|$(cat "$1/command"): |"
 }
 
 # keep: leaves in out/gate what each part said

@@ -102,7 +102,7 @@ class Trial:
         self.failed += bool(why)
         print(f'FAILED  {self.wanted.name}/{line.name}: {why}' if why else f'ok      {self.wanted.name}/{line.name}', flush=True)
         if found:
-            print(f'        {found[:200]}', flush=True)
+            print(f'        {unmarked(found)[:200]}', flush=True)
 
     def tried(self, lines):
         """Tries the lines batch by batch. What is not noticed in company is tried alone."""
@@ -159,12 +159,17 @@ def is_of_case(text, case):
     return not case or re.search(rf'^FAILED\s(?:.*\s)?{re.escape(case)}(?=$|:| - )', text) is not None
 
 
+def unmarked(text):
+    """What a line of a script says failed, without the word for it, by which the gate finds what failed in its parts."""
+    return re.sub(r'^FAILED\s+', '', text)
+
+
 # ---- writing a list
 
 
 def name_of(text, passing):
     """The name of the case that a line of a script tells of: one that passes without wrong lines, or what stands before the reason."""
-    text = re.sub(r'^FAILED\s+((Chromium|Firefox): )?', '', text)
+    text = re.sub('^(Chromium|Firefox): ', '', unmarked(text))
     known = max((case for case in passing if text.startswith(case)), key=len, default='')
     return known or re.match(r'(?s)(.*?)(?=$| - |: ["\'\[{(]|: \d|: status )', text)[1]
 

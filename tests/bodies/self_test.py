@@ -212,6 +212,8 @@ CASES = [
     ("a case of pytest", lambda: by_scripts.is_of_case("FAILED tests/a.py::b[c-d] - assert 1 == 2", "tests/a.py::b[c-d]"), True),
     ("another case", lambda: by_scripts.is_of_case("FAILED  a: b, cd: x", "a: b, c"), False),
     ("any case", lambda: by_scripts.is_of_case("FAILED  a: x", ""), True),
+    ("what is quoted of a case that failed", lambda: by_scripts.unmarked("FAILED  a: FAILED"), "a: FAILED"),
+    ("what is quoted of pytest", lambda: by_scripts.unmarked("FAILED tests/a.py::b - x"), "tests/a.py::b - x"),
     ("what a line breaks", lambda: by_scripts.name_of("FAILED  Firefox: a, b: {'x': 1}", ["a", "a, b"]), "a, b"),
     ("what it breaks where no case is known", lambda: by_scripts.name_of("FAILED  a: b: 'x' in place of 'y'", []), "a: b"),
     ("two that are told apart", lambda: batches("one", "two"), ["name: one", "case: a", "batch: 1", "name: two", "case: c", "batch: 1"]),

@@ -101,7 +101,7 @@ part() {
     printf '#!/bin/bash\n%s\n' "$2" > "$work/gate/$1" && chmod +x "$work/gate/$1"
 }
 part prove 'echo "rt: low proved"; until [ -e go ]; do sleep 0.1; done; echo "2 passed, 0 failed"'
-part good 'echo "ok      one"; echo "        FAILED  four"; echo "skipped two: there is no tool"; echo "1 passed, 0 failed"'
+part good 'echo "ok      one"; echo "skipped two: there is no tool"; echo "1 passed, 0 failed"'
 part bad 'echo "FAILED  three: why"; echo "0 passed, 1 failed"; exit 1'
 part mute 'echo words'
 # The proof ends when the failed part has been told, or after a minute.
@@ -126,7 +126,6 @@ equal 'a gate of small parts: the counts' "$status $(tail -n 1 "$tell")" '1 4 pa
 equal 'a failure is told before the proof ends' "$(grep -n -m 1 'FAILED  three' "$tell" | cut -d : -f 2-) $(grep -c '^2 passed' "$tell")" './bad: FAILED  three: why 1'
 said 'and so is its part' "$(awk '/^[0-9]+:[0-9][0-9]  \.\/bad: 0 passed, 1 failed$/ { told = 1 } /^2 passed, 0 failed$/ && told { exit found = 1 } END { if (!found) print "not before" }' "$tell")"
 equal 'the end tells it again behind the costs, and what was skipped' "$(sed '1,/^What each/d' "$tell" | sed '1,/^What failed/d' | grep -c 'FAILED  three\|skipped two\|notice: a word')" 3
-equal 'what was noticed of a wrong line is no failure' "$(grep -c 'FAILED  four' "$tell")" 0
 equal 'a part without counts' "$(grep -c '^\./mute: gave no counts$' "$tell")" 1
 equal 'a part that was not run' "$(grep -c '^\./never: was not run$' "$tell")" 1
 equal 'what a part said' "$(head -n 1 "$work/gate/out/gate/._good")" 'ok      one'

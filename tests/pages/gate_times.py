@@ -1,9 +1,7 @@
-"""Holds the table of parts in CONTRIBUTING.md against tests/gate.sh, its seconds against those of the last run of the gate here, and the
-minutes that the README tells against those of the page. A run leaves its seconds in out/gate-costs, and they are compared at its pace, since
-one machine takes twice what another does. One line a case that fails, and at the end the counts. With --write the seconds of that run are
-written into the table."""
+"""Holds the table of parts in CONTRIBUTING.md against tests/gate.sh, its seconds against those of the last run of the gate here, which
+leaves them in out/gate-costs, and the minutes that the README tells against those of the page. One line a case that fails, and at the end the
+counts. With --write the seconds of that run are written into the table."""
 import re
-import statistics
 import sys
 
 from repository import ROOT
@@ -13,7 +11,7 @@ PAGE = ROOT / 'CONTRIBUTING.md'
 HEAD = '| Part | Processor seconds |'
 ROW = re.compile(r'^\| (`.*?) \| ([\d,]+) \|', re.M)
 COSTS = ROOT / 'out' / 'gate-costs'
-# How many times the seconds of the page a part may take at the pace of the run, and how many seconds more: a short part varies by more.
+# One machine takes two fifths more than another, and a part of some seconds varies by more than that.
 MOST, SLACK = 1.5, 15
 EDITS = 'tests/bodies/try_wrong.py --gate CRATE'
 
@@ -48,12 +46,6 @@ def spent():
         seconds, command = line.split('\t')
         found[plain(command)] = found.get(plain(command), 0) + int(seconds)
     return found
-
-
-def pace(costs):
-    """How many times the seconds of the page the last run took: the median of its longer parts."""
-    times = [sum(costs[name] for name in names) / told for names, told in rows() if told > SLACK and all(name in costs for name in names)]
-    return statistics.median(times) if times else 1
 
 
 def write():
@@ -92,11 +84,10 @@ def cases():
         print('skipped the seconds of the gate: there is no run of it here')
         return
     costs = spent()
-    times = pace(costs)
     for names, told in rows():
-        found = sum(costs.get(name, 0) for name in names) / times
+        found = sum(costs.get(name, 0) for name in names)
         is_near = not all(name in costs for name in names) or found <= told * MOST + SLACK and told <= found * MOST + SLACK
-        yield 'the seconds of %s' % ', '.join(names), told if is_near else round(found), told
+        yield 'the seconds of %s' % ', '.join(names), told if is_near else found, told
 
 
 def why(wanted, found):
