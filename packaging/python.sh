@@ -21,6 +21,7 @@ wheel() {
     local folder=$work/$1
     cp -r bindings/python "$folder"
     rm -rf "$folder/tests" "$folder"/src/erd/__pycache__
+    install -m 644 contrib/repeated-names.py "$folder/src/erd/repeats.py"
     cp "$2" "$folder/src/erd/$3"
     cp LICENSE-MIT LICENSE-APACHE THIRD-PARTY-NOTICES "$folder"
     dated "$folder"

@@ -39,10 +39,8 @@ PYTEST = (BOUNDED + 'ERD_TOP=$PWD ERD_LIBRARY=$PWD/out/portable/linux-x86_64/lib
 LINES = ("python3 tests/forms/command_lines.py --beside ./erd 'python -m erd' package,python env "
          'ERD_LIBRARY=$PWD/out/portable/linux-x86_64/liberd.so.0 PYTHONPATH=$PWD/bindings/python/src python3 -m erd')
 NAMES = PYTEST + 'test_calls.py -k each_name'
-# repeats.py and contrib/repeated-names.py are the same, so that the tests of each try the other one too.
-REPEATED = 'python3 tests/forms/command_lines.py --command repeated-names "" script python3 bindings/python/src/erd/repeats.py'
-AS_REPEATS = ('rm -rf out/twin; cp -r bindings/python/src out/twin; cp contrib/repeated-names.py out/twin/erd/repeats.py; '
-              + PYTEST.replace('bindings/python/src', 'out/twin') + 'test_calls.py -k repeated')
+# repeated-names.py is a module of the package too.
+AS_MODULE = [PYTEST + 'test_calls.py', PYTEST + 'test_from_xml.py']
 STEPS = [BOUNDED + 'python3 tests/prepare/steps.py']
 TABLES = 'python3 tests/pages/tables.py'
 MODULE = 'node tests/forms/javascript_module.mjs'
@@ -64,11 +62,10 @@ BROWSED = {
 # The files, and the commands that try them, the cheapest first.
 AREAS = {
     'contrib/confined.sh': ['tests/program/confined.sh'],
-    'contrib/*.py': ['tests/program/contrib.sh', AS_REPEATS],
+    'contrib/*.py': ['tests/program/contrib.sh', *AS_MODULE],
     'contrib/*': ['tests/program/contrib.sh'],
     'bindings/python/src/erd/prepare/*.py': [TABLES, NAMES, PYTEST + 'test_prepare.py', *STEPS],
     'bindings/python/src/erd/from_xml/*.py': [TABLES, NAMES, PYTEST + 'test_from_xml.py'],
-    'bindings/python/src/erd/repeats.py': [PYTEST + 'test_calls.py', REPEATED, PYTEST + 'test_from_xml.py'],
     'bindings/python/src/erd/*.py': [*(PYTEST + f'test_{name}.py' for name in PYTHON_TESTS), LINES],
     'bindings/js/lib/prepare/*.mjs': [TABLES, MODULE, COMMAND, PACKAGE],
     'bindings/js/lib/*.mjs': [MODULE, REFUSALS, COMMAND, *PARTS, PACKAGE],

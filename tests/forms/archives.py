@@ -32,7 +32,8 @@ KINDS = {
 ASKED_FOR = ('LICENSE-MIT', 'LICENSE-APACHE', 'THIRD-PARTY-NOTICES')
 # Files of archives, and where they stand here.
 COPIES = (
-    (r'^package/(erd\.wasm)$', r'out/portable/\1'), (r'^package/(.*)$', r'bindings/js/\1'), (r'^(erd/.*\.(?:py|typed))$', r'bindings/python/src/\1'),
+    (r'^package/(erd\.wasm)$', r'out/portable/\1'), (r'^package/(.*)$', r'bindings/js/\1'),
+    (r'^erd/repeats\.py$', 'contrib/repeated-names.py'), (r'^(erd/.*\.(?:py|typed))$', r'bindings/python/src/\1'),
     (r'/(erd\.h)$', r'bindings/c/\1'), (r'/(liberd\.(?:a|so\..*))$', r'out/portable/linux-@MACHINE@/\1'),
     (r'/(erd\.(?:dll|lib))$', r'out/portable/windows-x86_64/\1'), (r'/(erd\.exe)$', r'out/portable/program-windows/\1'),
     (r'/(erd\.html)$', r'out/portable/\1'), (r'/examples/((?:erd_call|ErdCall)\..*)$', r'examples/calling/\1'),

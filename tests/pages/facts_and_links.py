@@ -230,14 +230,12 @@ def compare_pictures():
 
 
 def compare_lists():
-    """Each script of the page and of the tests says at its top what it has, as CONTRIBUTING.md promises, and each folder of the tests is there.
-    The script that lists repeated names stands alone, and is a module of the package for Python too."""
+    """Each script of the page and of the tests says at its top what it has, as CONTRIBUTING.md promises, and each folder of the tests is there."""
     scripts = [*ROOT.glob('web/scripts/*.mjs'), *(path for path in ROOT.glob('tests/*/*.*') if path.suffix in ('.sh', '.py', '.mjs'))]
     silent = [str(path.relative_to(ROOT)) for path in sorted(scripts) if not re.match(r'(#!.*\n)?(//|# |/\*|"""|r""")', path.read_text(encoding='utf-8'))]
     yield 'the scripts that do not say what they have', [], silent
     folders = {name for row in re.findall(r'^\| (`\w+/`.*?) \|', read('CONTRIBUTING.md'), re.M) for name in re.findall(r'`(\w+)/`', row)}
     yield 'the folders of the tests', sorted(path.name for path in (ROOT / 'tests').iterdir() if path.is_dir() and path.name != '__pycache__'), sorted(folders)
-    yield 'the script for repeated names', True, read('contrib/repeated-names.py') == read('bindings/python/src/erd/repeats.py')
 
 
 # ---- what a person acts on
