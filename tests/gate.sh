@@ -94,7 +94,7 @@ first 'python3 tests/pages/facts_and_links.py' 'python3 tests/pages/definitions.
     'conformance/run --in-process reference/erd_reference.py' \
     'conformance/run --differences --in-process reference/erd_reference.py' \
     'conformance/run --entries --in-process reference/erd_reference.py' 'tests/bodies/try_wrong.py programs' \
-    'python3 tests/pages/site.py'
+    'python3 tests/pages/site.py' 'python3 tests/measures/pace.py'
 echo 'Beside them `rt ci` proves the crates from the lowest to the highest, and names each one when it is proved.'
 proof 'tests/prove.sh'
 
@@ -125,7 +125,8 @@ lane 'program:' 'tests/program/command.sh' 'tests/pages/manual.sh' 'python3 test
     'python3 tests/program/agrees_on_preferences.py' 'conformance/run ./erd' 'tests/program/limits.sh' 'tests/program/confined.sh' \
     'tests/forms/make_install.sh' 'python3 tests/measures/crowding.py' 'python3 tests/measures/orders.py' \
     'python3 tests/measures/hostile_ballots.py' 'ended: tests/library/c_library.sh' 'tests/forms/profiled_program.sh' \
-    'python3 tests/measures/instructions.py' 'tests/forms/same_bytes.sh' 'tests:' 'tests/program/refusals.sh'
+    'python3 tests/measures/instructions.py' 'tests/forms/same_bytes.sh' 'tests:' 'tests/program/refusals.sh' \
+    'python3 tests/measures/pace.py'
 
 await
 # With the proofs that an earlier run has kept, the first part takes some seconds, and CONTRIBUTING.md says what it takes from nothing.

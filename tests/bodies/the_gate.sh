@@ -2,7 +2,7 @@
 # Tries parts of the gate with an `rt` that only says what a real one says. tests/prove.sh runs once more where the prover lost a file,
 # and where anything else failed it doesn't; on few processors it has two crates proved beside each other. Another build of the kit with the
 # same logic is told, and another logic is a failure. tests/gate_parts.sh runs small parts. packaging/room.sh is told what is free, and
-# packaging/needed.sh which tools are wanted. One line a case.
+# packaging/needed.sh which tools are wanted. tests/pages/gate_times.py has the seconds of runs at other paces. One line a case.
 set -u
 . "$(dirname "$0")/../shared/start.sh" || exit 1
 . tests/shared/commands.sh
@@ -129,4 +129,34 @@ equal 'the end tells it again behind the costs, and what was skipped' "$(sed '1,
 equal 'a part without counts' "$(grep -c '^\./mute: gave no counts$' "$tell")" 1
 equal 'a part that was not run' "$(grep -c '^\./never: was not run$' "$tell")" 1
 equal 'what a part said' "$(head -n 1 "$work/gate/out/gate/._good")" 'ok      one'
+
+# The seconds of a run against those of a table, in a folder of its own, at the pace of the run.
+mkdir -p "$work/table/tests/pages" "$work/table/tests/shared" "$work/table/out"
+cp tests/pages/gate_times.py tests/pages/repository.py "$work/table/tests/pages"
+cp tests/shared/cases.py "$work/table/tests/shared"
+echo "first 'tests/long.sh' 'python3 tests/measures/pace.py'" > "$work/table/tests/gate.sh"
+echo 'make test # tests: about 9 minutes on 4 idle cores' > "$work/table/README.md"
+cat > "$work/table/CONTRIBUTING.md" << 'END'
+`make test` proves everything and runs all tests. It takes about 9 minutes on four processors.
+
+| Part | Processor seconds |
+|---|--:|
+| `tests/long.sh` | 1,000 |
+| `tests/bodies/try_wrong.py --gate CRATE` | 100 |
+| `tests/measures/pace.py`, twice | 10 |
+
+END
+# seconds NAME PACE LONG EDITS FAILED: what the same work took in a run, in two times, the long part and the wrong bodies, and how many fail
+seconds() {
+    printf '%s\t%s\n' $(($2 / 2)) 'python3 tests/measures/pace.py' "$3" tests/long.sh "$4" 'tests/bodies/try_wrong.py --gate erd_low' \
+        $(($2 / 2)) 'python3 tests/measures/pace.py' > "$work/table/out/gate-costs"
+    equal "$1" "$(python3 "$work/table/tests/pages/gate_times.py" | tail -n 1)" "$((6 - $5)) passed, $5 failed"
+}
+seconds 'the seconds of the table' 10 1000 100 0
+seconds 'those of a machine that takes twice as long' 20 2000 200 0
+seconds 'a part that takes twice as long there' 20 4000 200 1
+seconds 'each part takes twice as long on the same machine' 10 2000 200 2
+seconds 'a part that takes half as long' 10 500 100 1
+python3 "$work/table/tests/pages/gate_times.py" --write
+equal 'the seconds that are written' "$(grep -c '^| .* | 500 |$\|^| .* | 100 |$\|^| .*, twice | 10 |$' "$work/table/CONTRIBUTING.md")" 3
 counts

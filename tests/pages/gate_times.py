@@ -1,6 +1,7 @@
 """Holds the table of parts in CONTRIBUTING.md against tests/gate.sh, its seconds against those of the last run of the gate here, which
-leaves them in out/gate-costs, and the minutes that the README tells against those of the page. One line a case that fails, and at the end the
-counts. With --write the seconds of that run are written into the table."""
+leaves them in out/gate-costs, and the minutes that the README tells against those of the page. One machine takes twice what another does,
+so the seconds are compared at the pace of the run: what tests/measures/pace.py took, which has nothing of erd. One line a case that fails,
+and at the end the counts. With --write the seconds of that run are written into the table."""
 import re
 import sys
 
@@ -11,9 +12,10 @@ PAGE = ROOT / 'CONTRIBUTING.md'
 HEAD = '| Part | Processor seconds |'
 ROW = re.compile(r'^\| (`.*?) \| ([\d,]+) \|', re.M)
 COSTS = ROOT / 'out' / 'gate-costs'
-# One machine takes two fifths more than another, and a part of some seconds varies by more than that.
+# How many times the seconds of the table a part may take, and how many seconds more: a part of some seconds varies by more.
 MOST, SLACK = 1.5, 15
 EDITS = 'tests/bodies/try_wrong.py --gate CRATE'
+PACE = 'tests/measures/pace.py'
 
 
 def plain(command):
@@ -46,6 +48,11 @@ def spent():
         seconds, command = line.split('\t')
         found[plain(command)] = found.get(plain(command), 0) + int(seconds)
     return found
+
+
+def pace(costs):
+    """How many times the seconds of the table the same work took in the last run."""
+    return costs[PACE] / next(told for names, told in rows() if PACE in names) if PACE in costs else 1
 
 
 def write():
@@ -81,13 +88,14 @@ def cases():
     yield 'the minutes of the gate, told once', 1, len(found)
     yield 'the minutes that the README tells', found, told
     if not COSTS.exists():
-        print('skipped the seconds of the gate: there is no run of it here')
+        print('notice: there is no earlier run of the gate here, with which the seconds of the table are compared')
         return
     costs = spent()
+    times = pace(costs)
     for names, told in rows():
-        found = sum(costs.get(name, 0) for name in names)
+        found = sum(costs.get(name, 0) for name in names) / times
         is_near = not all(name in costs for name in names) or found <= told * MOST + SLACK and told <= found * MOST + SLACK
-        yield 'the seconds of %s' % ', '.join(names), told if is_near else found, told
+        yield 'the seconds of %s' % ', '.join(names), told if is_near else round(found), told
 
 
 def why(wanted, found):
