@@ -124,9 +124,9 @@ lane 'program:' 'tests/program/command.sh' 'tests/pages/manual.sh' 'python3 test
     'python3 tests/program/agrees_with_reference.py 500' 'python3 tests/program/same_meaning.py' \
     'python3 tests/program/agrees_on_preferences.py' 'conformance/run ./erd' 'tests/program/limits.sh' 'tests/program/confined.sh' \
     'tests/forms/make_install.sh' 'python3 tests/measures/crowding.py' 'python3 tests/measures/orders.py' \
-    'python3 tests/measures/hostile_ballots.py' 'ended: tests/library/c_library.sh' 'tests/forms/profiled_program.sh' \
-    'python3 tests/measures/instructions.py' 'tests/forms/same_bytes.sh' 'tests:' 'tests/program/refusals.sh' \
-    'python3 tests/measures/pace.py'
+    'python3 tests/measures/hostile_ballots.py' 'python3 tests/measures/growth.py' 'ended: tests/library/c_library.sh' \
+    'tests/forms/profiled_program.sh' 'python3 tests/measures/instructions.py' 'tests/forms/same_bytes.sh' 'tests:' \
+    'tests/program/refusals.sh' 'python3 tests/measures/pace.py'
 
 await
 # With the proofs that an earlier run has kept, the first part takes some seconds, and CONTRIBUTING.md says what it takes from nothing.

@@ -5,7 +5,6 @@
   one that means the same.
 - Each raw example is accepted after the steps, and so is each rearrangement, which then means the same.
 - What is told of a large report has a bound.
-- The steps take at most a little more than twice as long on a report twice as large, on the reports of growth.py.
 
 The package has the steps of the C library: ERD_LIBRARY names it, if it is not the one in out/portable. The verdicts are those of the
 reference program.
@@ -17,7 +16,6 @@ import platform
 import random
 import re
 import sys
-import time
 
 ROOT = pathlib.Path(__file__).resolve().parents[2]
 EXAMPLES = ROOT / 'examples'
@@ -25,7 +23,6 @@ sys.path[:0] = [str(ROOT / folder) for folder in ('bindings/python/src', 'refere
 sys.dont_write_bytecode = True
 os.environ.setdefault('ERD_LIBRARY', str(ROOT / f'out/portable/linux-{platform.machine()}/liberd.so.0'))
 import damages  # noqa: E402
-import growth  # noqa: E402
 import harder_exports  # noqa: E402
 import mended  # noqa: E402
 import small_reports  # noqa: E402
@@ -151,7 +148,7 @@ def small_ones():
         yield f'{name}: what is told', [step] if prepared != data else [], [it['step'] for it in done if it['count']]
 
 
-# ---- how much is told, and how long it takes
+# ---- how much is told
 
 
 # Reports of which a step tells more than is listed: many changes, and changes below one long name.
@@ -168,38 +165,6 @@ def bounds():
         yield f'the size of a report of {name}', True, len(json.dumps(told)) < MOST_BYTES_TOLD
 
 
-# With these sizes each report takes long enough to be measured. What a square took would be four times as long.
-SIZES = (400, 800)
-MOST_TIMES = 3
-# The least of so many measurements counts, and of more where other work on the machine may have disturbed them.
-LEAST_ROUNDS, MOST_ROUNDS = 3, 12
-
-
-def growth_of_steps():
-    """No step takes much more than twice as long for a report twice as large."""
-    for name, make in growth.REPORTS.items():
-        reports = [json.dumps(make(size)).encode() for size in SIZES]
-        rounds = []
-        while len(rounds) < LEAST_ROUNDS or (is_steep(rounds) and len(rounds) < MOST_ROUNDS):
-            rounds.append([seconds_for(data) for data in reports])
-        yield f'{name}: growth', True, not is_steep(rounds) or least_of(rounds)
-
-
-def least_of(rounds):
-    return [min(seconds) for seconds in zip(*rounds)]
-
-
-def is_steep(rounds):
-    small, large = least_of(rounds)
-    return large >= MOST_TIMES * small
-
-
-def seconds_for(data):
-    begin = time.process_time()
-    by_the_library(data, ALL)
-    return time.process_time() - begin
-
-
 def cases(seed):
     yield from words()
     yield 'each step is tried', sorted(ALL[1:]), sorted(damages.DAMAGES)
@@ -210,7 +175,6 @@ def cases(seed):
     yield from one_after_another()
     yield from small_ones()
     yield from bounds()
-    yield from growth_of_steps()
 
 
 if __name__ == '__main__':

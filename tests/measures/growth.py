@@ -1,9 +1,18 @@
-"""Reports on which a step could take the square of what it reads, by their size: as many objects as that, all of which ask one of them for
-its many identifiers, or all of which are alike. tests/prepare/steps.py counts what each step does with one and with one twice as large."""
+"""Holds `erd prepare` with all steps against reports on which a step could take the square of what it reads, by their size: as many objects as
+that, all of which ask one of them for its many identifiers, or all of which are alike. One twice as large takes at most 2.5 times the
+instructions, where a square would take four times as many. Needs valgrind and `./erd`. One line a case.
+"""
 import json
+import os
 import pathlib
+import sys
+
+from measuring import at_most, counted_cases, instructions
 
 EXAMPLES = pathlib.Path(__file__).resolve().parents[2] / 'examples'
+MOST = 2.5
+SIZE = 300
+ALL_STEPS = 'removed,filled-in,visible,view'
 
 
 def identifiers(*values, kind='local-level'):
@@ -88,4 +97,22 @@ def candidates(size):
     return report
 
 
-REPORTS = {make.__name__: make for make in (counties, write_ins, lines_of_one, contests, styles, candidates)}
+REPORTS = (counties, write_ins, lines_of_one, contests, styles, candidates)
+
+
+def counted(report, folder):
+    """The instructions of a preparation, which may leave faults."""
+    path = os.path.join(folder, 'report')
+    with open(path, 'w', encoding='utf-8') as file:
+        json.dump(report, file)
+    return instructions(['./erd', 'prepare', '--steps', ALL_STEPS, path], statuses=(0, 1))
+
+
+def cases(folder):
+    for make in REPORTS:
+        ratio = counted(make(2 * SIZE), folder) / counted(make(SIZE), folder)
+        yield '%s: one twice as large takes %.2f times the instructions' % (make.__doc__.split('.')[0], ratio), at_most(MOST, ratio)
+
+
+if __name__ == '__main__':
+    sys.exit(counted_cases(cases, 'the reports on which a step could take the square'))
