@@ -1,6 +1,7 @@
 #!/usr/bin/env bash
 # Makes the program for other machines, and runs the table of command lines and the conformance suite over each: over that for
-# aarch64 under qemu, and over that for Windows under wine. One line a case.
+# aarch64 under qemu, and over that for Windows under wine, which both start slowly, so that each report goes to one command, in turn. One
+# line a case.
 set -u
 . "$(dirname "$0")/../shared/start.sh" || exit 1
 . tests/shared/commands.sh
@@ -15,11 +16,11 @@ tried() {
     counted "the table of command lines: $name" "$work/lines"
     # a trial of wrong lines runs no more than has their cases
     [[ -z ${CASES:-} || $CASES == *'the conformance suite'* ]] || return
-    run conformance/run "$@"
+    run conformance/run --briefly "$@"
     # wine ends a program now and then with status 1 and no word: what fails twice is the program's
     if ! tail -n 1 "$work/out" | grep -qx '[1-9][0-9]* passed, 0 failed'; then
         echo "notice: $name: the conformance suite once more, since $(grep -m 1 FAILED "$work/out")"
-        run conformance/run "$@"
+        run conformance/run --briefly "$@"
     fi
     said "$name: the conformance suite: $(tail -n 1 "$work/out")" "$(grep FAILED "$work/out" | head -n 3)$(
         tail -n 1 "$work/out" | grep -qx '[1-9][0-9]* passed, 0 failed' || echo 'it did not pass')"
