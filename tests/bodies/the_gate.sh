@@ -135,9 +135,9 @@ mkdir -p "$work/table/tests/pages" "$work/table/tests/shared" "$work/table/out"
 cp tests/pages/gate_times.py tests/pages/repository.py "$work/table/tests/pages"
 cp tests/shared/cases.py "$work/table/tests/shared"
 echo "first 'tests/long.sh' 'python3 tests/measures/pace.py'" > "$work/table/tests/gate.sh"
-echo 'make test # tests: about 9 minutes on 4 idle cores' > "$work/table/README.md"
+echo 'make test # tests: about 9 minutes on 2 idle cores' > "$work/table/README.md"
 cat > "$work/table/CONTRIBUTING.md" << 'END'
-`make test` proves everything and runs all tests. It takes about 9 minutes on four processors.
+`make test` proves everything and runs all tests. It takes about 9 minutes on two processors.
 
 | Part | Processor seconds |
 |---|--:|

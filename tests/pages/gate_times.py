@@ -67,10 +67,10 @@ def write():
 
 
 def minutes():
-    """How many minutes `make test` takes on four processors, as the page says, and as the README says."""
+    """How many minutes `make test` takes on two processors, as the page says, and as the README says."""
     page, readme = ((ROOT / name).read_text(encoding='utf-8') for name in ('CONTRIBUTING.md', 'README.md'))
-    return (re.findall(r'`make test` proves everything and runs all tests\. It takes about (\d+) minutes on four processors', page),
-            re.findall(r'^make test .*: about (\d+) minutes on 4 idle cores$', readme, re.M))
+    return (re.findall(r'`make test` proves everything and runs all tests\. It takes about (\d+) minutes on two processors', page),
+            re.findall(r'^make test .*: about (\d+) minutes on 2 idle cores$', readme, re.M))
 
 
 def parts():
