@@ -230,24 +230,28 @@ def test_resume(run, top, tmp_path):
     folder = tmp_path / 'many'
     folder.mkdir()
     report = (top / 'examples' / 'one-unit.json').read_bytes()
-    for number in range(3000):
+    for number in range(300):
         (folder / f'{number}.json').write_bytes(report)
-    environment = {**os.environ, 'XDG_STATE_HOME': str(tmp_path / 'state')}
+    # The run and its processes are cut off as soon as so many rows are kept.
+    (tmp_path / 'sitecustomize.py').write_text(
+        'import os, signal\n'
+        'from erd.journal import Journal\n'
+        'def add(journal, row, real=Journal.add, rows=[]):\n'
+        '    real(journal, row)\n'
+        '    rows.append(row)\n'
+        '    if len(rows) == 100: os.killpg(0, signal.SIGKILL)\n'
+        'Journal.add = add\n')
+    environment = {**os.environ, 'XDG_STATE_HOME': str(tmp_path / 'state'),
+                   'PYTHONPATH': os.pathsep.join([str(tmp_path), os.environ.get('PYTHONPATH', '')])}
     words = [sys.executable, '-m', 'erd.many', '--json', '--jobs', '2', str(folder)]
-    cut = subprocess.Popen(words, stdout=subprocess.DEVNULL, stderr=subprocess.DEVNULL, env=environment, start_new_session=True)
+    cut = subprocess.run(words, stdout=subprocess.DEVNULL, stderr=subprocess.DEVNULL, env=environment, start_new_session=True)
     state = tmp_path / 'state' / 'erd'
-    deadline = time.time() + 120
-    while time.time() < deadline and not any(file.stat().st_size > 2000 for file in state.glob('*.jsonl')):
-        time.sleep(0.01)
-    os.killpg(cut.pid, signal.SIGKILL)
-    cut.wait()
-    kept = sum(len(file.read_text().split('\n')) - 2 for file in state.glob('*.jsonl'))
-    assert 0 < kept < 3000
+    assert (cut.returncode, sum(len(file.read_text().split('\n')) - 2 for file in state.glob('*.jsonl'))) == (-signal.SIGKILL, 100)
     (folder / '0.json').write_bytes(b'{')
     ran = run('--json', '--resume', '--jobs', 2, folder)
     rows = rows_by_name(ran)
-    assert len(rows) == 3000 and rows['0.json']['verdict'] == 'not JSON'
-    assert sum(row['verdict'] == 'accepted' for row in rows.values()) == 2999
+    assert len(rows) == 300 and rows['0.json']['verdict'] == 'not JSON'
+    assert sum(row['verdict'] == 'accepted' for row in rows.values()) == 299
     assert not list(state.glob('*.jsonl'))
 
 
