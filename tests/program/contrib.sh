@@ -192,12 +192,13 @@ run env ERD=kills contrib/check-folder.sh "$folder/a.json"
 expect_text 'a worker that is lost' 3 ''
 equal 'it is told' "$(tail -n 1 "$work/err")" 'check-folder.sh: some files were not judged'
 
-# ---- a run that is interrupted: no further program is begun
-printf '#!/bin/sh\necho >> %s/begun\nexec sleep 1\n' "$work" > "$work/bin/waits"
-chmod +x "$work/bin/waits"
+# ---- a run that is interrupted by the first of its programs: no further one is begun
+printf '#!/bin/sh\necho >> %s/begun\nkill -s "$SIGNAL" "$(cat %s/script)"\nexec sleep 1\n' "$work" "$work" > "$work/bin/interrupts"
+chmod +x "$work/bin/interrupts"
 for signal in TERM INT HUP; do
     rm -f "$work/begun"
-    run env --default-signal ERD=waits JOBS=1 timeout --foreground --preserve-status -s "$signal" 0.4 contrib/check-folder.sh "$folder/a.json" "$folder/d.json"
+    run env --default-signal ERD=interrupts JOBS=1 SIGNAL="$signal" sh -c 'echo $$ > "$0"; exec "$@"' "$work/script" \
+        contrib/check-folder.sh "$folder/a.json" "$folder/d.json"
     expect_text "a run that is interrupted by $signal" 130 ''
     sleep 1
     equal "it begins no other program after $signal" "$(wc -l < "$work/begun")" 1
@@ -209,7 +210,7 @@ cat > "$work/bin/counts" << END
 #!/bin/sh
 : > "$work/running/\$\$"
 ls "$work/running" | wc -l >> "$work/jobs"
-sleep 0.2
+sleep 0.\$((JOBS * 3))
 rm "$work/running/\$\$"
 END
 chmod +x "$work/bin/counts"
