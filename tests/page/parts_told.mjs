@@ -235,7 +235,10 @@ question(2, 'open', { files: [], prefer: null, converted: [] });
 question(3, 'verdict');
 ASKED.split(' ').forEach((kind, at) => question(4 + at, kind, { index: 0 }));
 question(99, 'nosuch');
-await new Promise((resolve) => setTimeout(resolve, 50));
+for (let tries = 0; tries < 1000 && answered.at(-1)?.number !== 99; tries++) {
+    await wait();
+}
+await wait();
 equal('worker: it begins, takes files and judges them', answered.slice(0, 3),
     [{ number: 1 }, { number: 2 }, { number: 3, answer: { files: [], comparison: null } }]);
 equal('worker: it answers each question in its order', answered.map((one) => one.number), [1, 2, 3, ...ASKED.split(' ').map((_, at) => 4 + at), 99]);
