@@ -1,5 +1,5 @@
 """Holds `erd prepare` with all steps against reports on which a step could take the square of what it reads, by their size: as many objects as
-that, all of which ask one of them for its many identifiers, or all of which are alike. One twice as large takes at most 2.5 times the
+that, all of which ask one of them for its many identifiers, or all of which are alike. One twice as large takes at most 2.2 times the
 instructions, where a square would take four times as many. Needs valgrind and `./erd`. One line a case.
 """
 import json
@@ -10,7 +10,7 @@ import sys
 from measuring import at_most, counted_cases, instructions
 
 EXAMPLES = pathlib.Path(__file__).resolve().parents[2] / 'examples'
-MOST = 2.5
+MOST = 2.2
 SIZE = 300
 ALL_STEPS = 'removed,filled-in,visible,view'
 
