@@ -11,7 +11,7 @@ from measuring import at_most, counted_cases, instructions
 
 EXAMPLES = pathlib.Path(__file__).resolve().parents[2] / 'examples'
 MOST = 2.2
-SIZE = 300
+SIZE = 100
 ALL_STEPS = 'removed,filled-in,visible,view'
 
 
