@@ -98,10 +98,10 @@ first 'python3 tests/pages/facts_and_links.py' 'python3 tests/pages/definitions.
 echo 'Beside them `rt ci` proves the crates from the lowest to the highest, and names each one when it is proved.'
 proof 'tests/prove.sh'
 
-# While erd_check is proved, nothing else is ready: what nothing waits for has a processor then. The wrong bodies of the gate are those of the
-# two crates that people call. These stand on the contracts of the others: where one says too little for them, their proofs fail.
+# While erd_check is proved, nothing else is ready: what nothing waits for has a processor then. Of the wrong bodies below erd_canon the gate
+# tries that of a call on which no crate above rests: where another contract says too little, a proof above fails.
 between 'tests/forms/make_try.sh'
-edits between erd_canon
+edits between erd_meaning erd_canon
 edits lane erd_program
 for crate in $(grep -l '^gate: ' $(grep -lx 'noticed by: a contract' tests/bodies/lists/*.txt) | xargs -n 1 basename -s .txt); do
     [[ $tried == *" $crate "* ]] || missing "tests/bodies/lists/$crate.txt: the wrong bodies of the gate are not tried"

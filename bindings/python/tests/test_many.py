@@ -232,15 +232,15 @@ def test_resume(run, top, tmp_path):
     report = (top / 'examples' / 'one-unit.json').read_bytes()
     for number in range(300):
         (folder / f'{number}.json').write_bytes(report)
-    # The run and its processes are cut off as soon as so many rows are kept.
+    # The run and its processes are cut off in the row behind the hundredth: an empty line stands before the first.
     (tmp_path / 'sitecustomize.py').write_text(
         'import os, signal\n'
         'from erd.journal import Journal\n'
-        'def add(journal, row, real=Journal.add, rows=[]):\n'
-        '    real(journal, row)\n'
-        '    rows.append(row)\n'
-        '    if len(rows) == 100: os.killpg(0, signal.SIGKILL)\n'
-        'Journal.add = add\n')
+        'def write(journal, line, real=Journal.write, lines=[]):\n'
+        '    lines.append(line)\n'
+        '    real(journal, line if len(lines) < 102 else line[:40])\n'
+        '    if len(lines) == 102: os.killpg(0, signal.SIGKILL)\n'
+        'Journal.write = write\n')
     environment = {**os.environ, 'XDG_STATE_HOME': str(tmp_path / 'state'),
                    'PYTHONPATH': os.pathsep.join([str(tmp_path), os.environ.get('PYTHONPATH', '')])}
     words = [sys.executable, '-m', 'erd.many', '--json', '--jobs', '2', str(folder)]
