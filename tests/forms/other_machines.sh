@@ -80,7 +80,8 @@ of_windows() {
     run x86_64-w64-mingw32-gcc -std=c11 -O2 -Wall -Wextra -I"$folder" tests/forms/caller.c "$folder/erd.lib" -o "$work/caller.exe"
     expect 'a caller for Windows' 0
     begin_wine
-    answers windows wine "$work/caller.exe"
+    answers windows tests/shared/by_wine.sh "$work/caller.exe"
+    told_again erd.dll
 }
 
 of_wasm() {

@@ -17,11 +17,6 @@ tried() {
     # a trial of wrong lines runs no more than has their cases
     [[ -z ${CASES:-} || $CASES == *'the conformance suite'* ]] || return
     run conformance/run --briefly "$@"
-    # wine ends a program now and then with status 1 and no word: what fails twice is the program's
-    if ! tail -n 1 "$work/out" | grep -qx '[1-9][0-9]* passed, 0 failed'; then
-        echo "notice: $name: the conformance suite once more, since $(grep -m 1 FAILED "$work/out")"
-        run conformance/run --briefly "$@"
-    fi
     said "$name: the conformance suite: $(tail -n 1 "$work/out")" "$(grep FAILED "$work/out" | head -n 3)$(
         tail -n 1 "$work/out" | grep -qx '[1-9][0-9]* passed, 0 failed' || echo 'it did not pass')"
 }
@@ -55,7 +50,8 @@ of_windows() {
     guarded_for_windows erd.exe "$made/program-windows/erd.exe"
     equal 'erd.exe has a stack of 8 MiB' "$(x86_64-w64-mingw32-objdump -p "$made/program-windows/erd.exe" | sed -n 's/^SizeOfStackReserve\s*0*//p')" 800000
     begin_wine
-    tried erd.exe windows wine "$PWD/$made/program-windows/erd.exe"
+    tried erd.exe windows tests/shared/by_wine.sh "$PWD/$made/program-windows/erd.exe"
+    told_again erd.exe
 }
 
 [ -x erd ] || { echo 'skipped the program for other machines: make erd has not been run'; counts; exit; }

@@ -193,9 +193,10 @@ if command -v wine > /dev/null; then
     plain x86_64-w64-mingw32-gcc -I"$folder" "$folder/examples/erd_call.c" "$folder/erd.lib" -o "$folder/erd_call.exe"
     expect 'a program for Windows' 0
     begin_wine
-    answers 'on Windows' wine "$folder/erd_call.exe"
-    plain wine "$folder/erd.exe" compare "$left" "$right"
+    answers 'on Windows' tests/shared/by_wine.sh "$folder/erd_call.exe"
+    plain tests/shared/by_wine.sh "$folder/erd.exe" compare "$left" "$right"
     expect_text 'erd.exe' 0 same
+    told_again 'the release for Windows'
 else
     echo 'skipped a program for Windows: there is no wine'
 fi

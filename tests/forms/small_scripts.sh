@@ -315,4 +315,28 @@ for name in source conformance portable/make deb tarball library_deb library_arc
     cp "$work/kept" "$tree/packaging/$name.sh"
 done
 
+# by_wine: a program that ends with status 1 and no word runs once more, and no other does.
+export WINEPREFIX=$work/wine
+mkdir "$WINEPREFIX"
+# by_wine NAME STATUS TEXT LINE ..: what is left of a program that does these lines; $runs is how often it ran
+by_wine() {
+    rm -f "$WINEPREFIX/runs"
+    fake "$tools/wine" 'echo >> "$WINEPREFIX/runs"; runs=$(wc -l < "$WINEPREFIX/runs")' "${@:4}"
+    env PATH="$tools:$PATH" tests/shared/by_wine.sh erd.exe canon <<< input > "$work/out" 2> "$work/err"
+    status=$?
+    expect_text "$1" "$2" "$3"
+    runs=$(wc -l < "$WINEPREFIX/runs")
+}
+by_wine 'a program that wine ends once' 0 'erd.exe canon input' '[ "$runs" -gt 1 ] || exit 1' 'echo "$* $(cat)"'
+equal 'how often it ran' "$runs" 2
+equal 'it is told' "$(cat "$WINEPREFIX/again")" 'erd.exe canon'
+by_wine 'one that it ends always' 1 '' 'exit 1'
+equal 'how often that ran' "$runs" 2
+by_wine 'a status of 1 with an answer' 1 difference 'echo difference; exit 1'
+equal 'how often that ran, and its standard error' "$runs $(cat "$work/err")." '1 .'
+by_wine 'a status of 1 with words alone' 1 '' 'echo fault >&2; exit 1'
+equal 'how often it ran, and its standard error' "$runs $(cat "$work/err")" '1 fault'
+by_wine 'another status with no word' 3 '' 'exit 3'
+equal 'how often one of them ran' "$runs" 1
+
 counts

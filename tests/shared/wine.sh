@@ -8,6 +8,11 @@ begin_wine() {
     exec {held}> >(exec wine cmd.exe > /dev/null 2>&1)
 }
 
+# told_again NAME: says how often by_wine.sh ran a program once more
+told_again() {
+    [ ! -e "$WINEPREFIX/again" ] || echo "notice: $1: wine ended $(wc -l < "$WINEPREFIX/again") runs with status 1 and no word, and ran these once more"
+}
+
 # end_wine: ends what runs there, and takes away the folder of the script
 end_wine() {
     [ ! -d "$WINEPREFIX" ] || wineserver -k 2> /dev/null
