@@ -71,8 +71,8 @@ edits() {
 }
 
 # tests/forms/other_machines.sh and other_programs.sh make each form anew; the release in this folder takes these, and that in another folder
-# makes them once more.
-export FORMS_ARE_MADE=yes
+# makes them once more. What clang has made of the same bytes serves there, and tests/forms/same_bytes.sh looks whether it makes them alike.
+export FORMS_ARE_MADE=yes KEPT_OBJECTS=$results/objects
 
 # Without llvm-profdata, what is handed on is made without a profile, and tests/forms/profiled_program.sh says so.
 packaging/profile/flags.sh > /dev/null 2>&1 || export PROFILE=no

@@ -69,6 +69,22 @@ proved_for() {
     fi
 }
 
+# compile MODULE OBJECT FLAG ..: compiles a module by these flags. Where $KEPT_OBJECTS names a folder, as the gate does, which makes the same
+# forms in two folders, what clang has made of the same module, profile and flags is taken from there
+compile() {
+    local flags=("${@:3}" -Wno-override-module) kept=''
+    if [ -n "${KEPT_OBJECTS:-}" ]; then
+        mkdir -p "$KEPT_OBJECTS"
+        kept=$KEPT_OBJECTS/$({
+            printf '%s\n' "${flags[@]//"$PWD"/.}"
+            cat "$1" packaging/profile/erd.proftext
+        } | sha256sum | cut -c 1-64)
+        [ ! -e "$kept" ] || { cp "$kept" "$2"; return; }
+    fi
+    llvm clang "${flags[@]}" -x ir -c "$1" -o "$2"
+    [ -z "$kept" ] || { cp "$2" "$kept.$$" && mv "$kept.$$" "$kept"; }
+}
+
 # resource FILE OBJECT: the resource with the version that a file for Windows has, by its name a program or a library
 resource() {
     local type=1

@@ -23,8 +23,7 @@ aarch64)
     proved_for aarch64 "$parts/proved.ll" "$parts/proved_aarch64.ll"
     take_profile
     for part in proved_aarch64 calls heap; do
-        llvm clang --target=aarch64-linux-gnu -O3 -fPIC -Wno-override-module "${profile[@]}" -x ir -c "$parts/$part.ll" \
-            -o "$parts/$part.aarch64.o"
+        compile "$parts/$part.ll" "$parts/$part.aarch64.o" --target=aarch64-linux-gnu -O3 -fPIC "${profile[@]}"
         objects+=("$parts/$part.aarch64.o")
     done
     rm -f "$archive"

@@ -37,11 +37,6 @@ named() {
         esac
 }
 
-# compile PART: a module of LLVM for the machine
-compile() {
-    llvm clang "${target[@]}" -O3 -Wno-override-module "${profile[@]}" -x ir -c "${prefix}_$1.ll" -o "${prefix}_$1.o"
-}
-
 # The proved code takes long, so what is compiled of it is kept. It is made anew where what it is made of is newer.
 if ! is_module_of erd || [ ! -e "${prefix}_proved.o" ] || [ -n "$(find crates/erd/out/module.bc packaging/profile/erd.proftext \
     packaging/portable/{program.sh,common.sh,heap.c} -newer "${prefix}_proved.o")" ]; then
@@ -54,8 +49,9 @@ if ! is_module_of erd || [ ! -e "${prefix}_proved.o" ] || [ -n "$(find crates/er
     esac
     from_c packaging/portable/heap.c "${prefix}_heap.ll"
     take_profile
-    compile heap
-    compile proved
+    for part in heap proved; do
+        compile "${prefix}_$part.ll" "${prefix}_$part.o" "${target[@]}" -O3 "${profile[@]}"
+    done
 fi
 objects=("${prefix}_proved.o" "${prefix}_heap.o" "${prefix}_main.o")
 "$compiler" -std=c11 -O2 -Wall -Wextra -ffile-prefix-map="$PWD=." -c bindings/c/main.c -o "${prefix}_main.o"

@@ -14,9 +14,8 @@ packaging/portable/module.sh
 target=(--target=wasm64-unknown-unknown -mcpu=mvp -mmutable-globals -msign-ext -mnontrapping-fptoint -msimd128 -O3
     -ffunction-sections -fdata-sections)
 plain=(-std=c11 -ffreestanding -fno-builtin -Wall -Wextra -ffile-prefix-map="$PWD=." "${headers[@]}")
-objects=()
 
-# compiled NAME WORD ..: one more object
+# compiled NAME WORD ..: one more object, of C
 compiled() {
     objects+=("$parts/$1.wasm.o")
     llvm clang "${target[@]}" "${@:2}" -c -o "$parts/$1.wasm.o"
@@ -34,10 +33,11 @@ python3 packaging/portable/wasm/small.py erd_tell_command_line erd_tell_prepared
     erd_tell_ballot_differences erd_tell_ballots_beside erd_tell_differences_values erd_tell_words < "$parts/proved.ll" > "$parts/small.ll"
 proved_for wasm "$parts/small.ll" "$parts/proved_wasm.ll"
 take_profile
-compiled proved_wasm "${profile[@]}" -Wno-override-module -x ir "$parts/proved_wasm.ll"
+compile "$parts/proved_wasm.ll" "$parts/proved_wasm.wasm.o" "${target[@]}" "${profile[@]}"
 for part in wide heap; do
-    compiled "$part" -Wno-override-module -x ir "$parts/$part.ll"
+    compile "$parts/$part.ll" "$parts/$part.wasm.o" "${target[@]}"
 done
+objects=("$parts"/{proved_wasm,wide,heap}.wasm.o)
 compiled calls "${plain[@]}" "${wide[@]}" packaging/portable/wasm/calls.c
 compiled memory "${plain[@]}" -mbulk-memory packaging/portable/wasm/memory.c
 compiled malloc "${plain[@]}" -mbulk-memory -w packaging/portable/wasm/malloc.c

@@ -14,8 +14,7 @@ folder=$made/windows-x86_64
 objects=()
 take_profile
 for part in proved calls heap; do
-    llvm clang --target=x86_64-w64-windows-gnu -march=x86-64-v2 -O3 -Wno-override-module "${profile[@]}" -x ir -c "$parts/$part.ll" \
-        -o "$parts/$part.windows.o"
+    compile "$parts/$part.ll" "$parts/$part.windows.o" --target=x86_64-w64-windows-gnu -march=x86-64-v2 -O3 "${profile[@]}"
     objects+=("$parts/$part.windows.o")
 done
 resource erd.dll "$parts/rc.windows.o"

@@ -6,6 +6,7 @@ set -u
 . "$(dirname "$0")/../shared/start.sh" || exit 1
 . tests/shared/commands.sh
 . tests/shared/fakes.sh
+unset KEPT_OBJECTS
 mkdir -p "$tree/tests/shared" "$tree/bindings"
 cp tests/shared/counting.sh "$tree/tests/shared"
 cp -r bindings/c "$tree/bindings"
@@ -293,6 +294,29 @@ done
 fresh env -u PROFILE packaging/portable/program.sh aarch64
 equal 'with the profile it is another, compiled by it' "$(grep -c -- "^clang.* -fprofile-use=$tree/out/profile/erd.profdata" "$asked")" 2
 said 'it has a file of its own' "$([ -s "$parts/program_aarch64_proved.o" ] || ls "$parts")"
+
+# compiled: the program for aarch64 is made of nothing but the objects that are kept, and the first lines of what clang compiled are noted
+compiled() {
+    rm -rf "$parts"
+    fresh env PROFILE=no "KEPT_OBJECTS=$work/objects" packaging/portable/program.sh aarch64
+    grep -o '^clang .* -c [^ ]*' "$asked" | sed 's|.*/program_aarch64_plain_||' | paste -sd ' '
+}
+equal 'for a folder without objects all is compiled' "$(compiled)" 'heap.ll proved.ll'
+cp "$parts/program_aarch64_plain_proved.o" "$work/first.o"
+equal 'of the same modules nothing is' "$(compiled)." .
+same_bytes 'what is taken is what was made' "$parts/program_aarch64_plain_proved.o" "$work/first.o"
+cp "$tree/crates/erd/out/module.bc" "$work/module.bc"
+echo 'attributes #2 = { other }' >> "$tree/crates/erd/out/module.bc"
+equal 'another module is' "$(compiled)" proved.ll
+cp "$work/module.bc" "$tree/crates/erd/out/module.bc"
+cp "$tree/packaging/profile/erd.proftext" "$work/erd.proftext"
+echo >> "$tree/packaging/profile/erd.proftext"
+equal 'and all for another profile' "$(compiled)" 'heap.ll proved.ll'
+cp "$work/erd.proftext" "$tree/packaging/profile/erd.proftext"
+sed -i 's/ -fPIE)/ -fPIE -g)/' "$tree/packaging/portable/program.sh"
+equal 'and by other flags' "$(compiled)" 'heap.ll proved.ll'
+cp packaging/portable/program.sh "$tree/packaging/portable"
+
 sed -i 's/^\(  call.*\)128(/\1128( @llvm.x86.other.b(/' "$tree/crates/erd/out/module.bc"
 fresh env PROFILE=no packaging/portable/program.sh aarch64
 expect 'an instruction of x86-64 that aarch64 has not' 1
@@ -322,7 +346,7 @@ expect 'the library for aarch64' 0
 equal 'that of this machine stays' "$(cat "$tree/out/c/liberd.a")" native
 equal 'its parts' "$(cat "$tree/out/portable/linux-aarch64/liberd.a")" \
     "$(cat "$parts/proved.ll" packaging/portable/pick_bytes/aarch64.ll; echo calls; echo heap)"
-equal 'each is compiled by the profile' "$(grep -c -- "^clang --target=aarch64-linux-gnu -O3 -fPIC .* -fprofile-use=$tree/out/profile/erd.profdata" "$asked")" 3
+equal 'each is compiled by the profile' "$(grep -c -- "^clang --target=aarch64-linux-gnu -O3 -fPIC -fprofile-use=$tree/out/profile/erd.profdata" "$asked")" 3
 equal 'its files' "$(cd "$tree/out/portable/linux-aarch64" && LC_ALL=C ls -R | paste -sd ' ')" \
     ".: erd.h liberd.a liberd.so liberd.so.0 liberd.so.$(cat VERSION) pkgconfig  ./pkgconfig: erd.pc"
 fresh env -u PROFILE packaging/portable/windows.sh
