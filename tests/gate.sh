@@ -40,6 +40,13 @@ program() {
     ) 9> "$results/lock"
 }
 
+# packages: waits until the packages of Debian are installed. Without llvm-profdata, what is handed on is made without a profile, and
+# tests/forms/profiled_program.sh says so.
+packages() {
+    until [ -e "$results/packages" ]; do sleep 1; done
+    packaging/profile/flags.sh > /dev/null 2>&1 || export PROFILE=no
+}
+
 # tests: waits until `rt ci` has ended, and has left the tests
 tests() {
     ended tests/prove.sh
@@ -64,7 +71,7 @@ libraries() {
 edits() {
     local crate steps=()
     for crate in "${@:2}"; do
-        steps+=("proved: $(libraries "$crate")" "tests/bodies/try_wrong.py --gate $crate")
+        steps+=(packages: "proved: $(libraries "$crate")" "tests/bodies/try_wrong.py --gate $crate")
         tried+=" $crate "
     done
     "$1" "${steps[@]}"
@@ -74,9 +81,6 @@ edits() {
 # makes them once more. What clang has made of the same bytes serves there, and tests/forms/same_bytes.sh looks whether it makes them alike.
 export FORMS_ARE_MADE=yes KEPT_OBJECTS=$results/objects
 
-# Without llvm-profdata, what is handed on is made without a profile, and tests/forms/profiled_program.sh says so.
-packaging/profile/flags.sh > /dev/null 2>&1 || export PROFILE=no
-
 # What `rt ci` has proved, compiled and run is what the scripts run, and a release takes the forms that are made here, so nothing older may
 # stand there. Some kits take no repository with links either, as the folders of these forms have.
 rm -f "$program" "$tests"
@@ -85,8 +89,13 @@ rm -rf out/portable/{linux,windows,program}-* out/portable/erd.wasm
 echo "make test with $(rt version), on $(nproc) processors. What each part says goes to out/gate, and its counts and what failed stand here."
 packaging/room.sh
 [ -n "$is_beside" ] || echo 'notice: what needs a crate waits for the end of the proofs, since less than 12 GB are free or earlier libraries are kept'
-echo 'First come the parts that need no proof: for a minute or two they tell whether the pages, the scripts and the lists fit the code.'
-first 'python3 tests/pages/facts_and_links.py' 'python3 tests/pages/definitions.py' 'python3 tests/pages/closures.py' \
+# The first crates are proved while the packages are installed. All else waits, since an installation may replace what it runs on.
+{
+    [ "${INSTALL:-}" = no ] || [ "$(id -u)" -ne 0 ] || packaging/install_packages.sh
+    : > "$results/packages"
+} &
+echo 'Once the packages are installed, the parts that need no proof tell for a minute or two whether pages, scripts and lists fit the code.'
+first 'packages:' 'python3 tests/pages/facts_and_links.py' 'python3 tests/pages/definitions.py' 'python3 tests/pages/closures.py' \
     'python3 tests/pages/exists.py' 'python3 tests/pages/documented.py' 'python3 tests/pages/quotes.py' 'python3 tests/pages/gate_times.py' \
     'tests/pages/commit_message.sh' 'tests/pages/version.sh' 'tests/forms/signed_sums.sh' 'python3 packaging/notices.py' \
     'python3 tests/bodies/self_test.py' 'tests/bodies/the_gate.sh' 'tests/forms/small_scripts.sh' 'tests/forms/made_anew.sh' \
@@ -100,27 +109,27 @@ proof 'tests/prove.sh'
 
 # While erd_check is proved, nothing else is ready: what nothing waits for has a processor then. Of the wrong bodies below erd_canon the gate
 # tries that of a call on which no crate above rests: where another contract says too little, a proof above fails.
-between 'tests/forms/make_try.sh'
+between 'packages:' 'tests/forms/make_try.sh'
 edits between erd_meaning erd_canon
 edits lane erd_program
 for crate in $(grep -l '^gate: ' $(grep -lx 'noticed by: a contract' tests/bodies/lists/*.txt) | xargs -n 1 basename -s .txt); do
     [[ $tried == *" $crate "* ]] || missing "tests/bodies/lists/$crate.txt: the wrong bodies of the gate are not tried"
 done
 
-lane 'proved: erd_canon' 'tests/library/c_library.sh' 'python3 tests/library/lists_agree.py 500' 'python3 tests/library/ballots_agree.py 200'
+lane 'packages:' 'proved: erd_canon' 'tests/library/c_library.sh' 'python3 tests/library/lists_agree.py 500' 'python3 tests/library/ballots_agree.py 200'
 
 # The packages of both languages take the forms that are made first, and stand beside the programs for other machines. A release makes
 # the packages too, so it comes when they are done. It ends the longest lane, and other lanes give way to these two.
-first 'program:' 'library:' 'tests/forms/other_machines.sh' 'tests/forms/other_programs.sh' 'ended: tests/fuzz/fuzz.sh' \
+first 'packages:' 'program:' 'library:' 'tests/forms/other_machines.sh' 'tests/forms/other_programs.sh' 'ended: tests/fuzz/fuzz.sh' \
     'tests/forms/program_packages.sh' 'tests/forms/release_files.sh' 'tests/forms/installed_alone.sh'
-first 'ended: tests/forms/other_machines.sh' 'ended: tests/library/c_library.sh' 'tests/forms/language_examples.sh' \
+first 'packages:' 'ended: tests/forms/other_machines.sh' 'ended: tests/library/c_library.sh' 'tests/forms/language_examples.sh' \
     'tests/forms/javascript_package.sh' 'tests/forms/python_package.sh' 'python3 tests/prepare/steps.py' 'tests/fuzz/fuzz.sh'
 
 # The page needs erd.wasm alone, and the wrong lines need what the other forms have made, so they run beside the packages.
-lane 'ended: tests/forms/other_machines.sh' 'tests/page/page.sh' 'ended: tests/forms/other_programs.sh' \
+lane 'packages:' 'ended: tests/forms/other_machines.sh' 'tests/page/page.sh' 'ended: tests/forms/other_programs.sh' \
     'ended: tests/fuzz/fuzz.sh' 'tests/bodies/try_wrong.py --gate lines'
 
-lane 'program:' 'tests/program/command.sh' 'tests/pages/manual.sh' 'python3 tests/pages/examples.py' 'tests/program/contrib.sh' \
+lane 'packages:' 'program:' 'tests/program/command.sh' 'tests/pages/manual.sh' 'python3 tests/pages/examples.py' 'tests/program/contrib.sh' \
     'python3 tests/program/agrees_with_reference.py 500' 'python3 tests/program/same_meaning.py' \
     'python3 tests/program/agrees_on_preferences.py' 'conformance/run ./erd' 'tests/program/limits.sh' 'tests/program/confined.sh' \
     'tests/forms/make_install.sh' 'python3 tests/measures/crowding.py' 'python3 tests/measures/orders.py' \
