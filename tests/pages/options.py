@@ -15,11 +15,9 @@ def help_texts():
 class Option:
     """An option: its name, the name of its value if it has one, and its help in short and at length."""
 
-    def __init__(self, body, texts):
-        self.word = '--' + re.search(r'\.long\("([\w-]+)"\)', body)[1]
-        self.value = None if 'ArgAction::SetTrue' in body else re.search(r'Arg::new\(alloc, "(\w+)"\)', body)[1]
-        self.help = texts[re.search(r'\.help\(help::(\w+)\)', body)[1]]
-        self.help_at_length = texts[re.search(r'\.(?:long_)?help\(help::(\w+)\)(?!.*\.long_help)', body, re.S)[1]]
+    def __init__(self, value, name, help_in_short, help_at_length):
+        self.word, self.value = '--' + name, value or None
+        self.help, self.help_at_length = help_in_short, help_at_length
         self.usual = USUAL.get(self.value, [])
 
 
@@ -27,18 +25,28 @@ def commands():
     """For each subcommand its options, and the names of its files."""
     texts = help_texts()
     bodies = dict(re.findall(r'^fn (\w+)<\'a>\((.*?)^\}', (COMMANDS / 'builder.rt').read_text(encoding='utf-8'), re.M | re.S))
-    options = {name: Option(body, texts) for name, body in bodies.items() if '.long(' in body}
     for name, body in bodies.items():
         if name.endswith('_command'):
-            body += ''.join(bodies[one] for one in re.findall(r'\b(with_\w+)\(alloc, command\)', body))
-            yield name.removesuffix('_command'), [options[one] for one in re.findall(r'\.arg\((\w+)\(alloc\)\)', body) if one in options], \
-                list(files_of(body, bodies))
+            body = unfolded(body, bodies)
+            yield name.removesuffix('_command'), list(options_of(body, texts)), list(files_of(body))
 
 
-def files_of(body, bodies):
+def unfolded(body, bodies):
+    """The body of a function, with the bodies of those that it calls in their places."""
+    return re.sub(r'\b(with_\w+|prefer_option)\(alloc(?:, command)?\)', lambda call: unfolded(bodies[call[1]], bodies), body)
+
+
+def options_of(body, texts):
+    """The options of a subcommand."""
+    call = r'\b(?:flag|text_option)\(\s*alloc,\s*(?:"(\w+)",\s*)?"([\w-]+)",\s*help::(\w+),\s*help::(\w+),?\s*\)'
+    for value, name, help_in_short, help_at_length in re.findall(call, body):
+        yield Option(value, name, texts[help_in_short], texts[help_at_length])
+
+
+def files_of(body):
     """The names of the files of a subcommand, each with whether it is required."""
-    for function, name in re.findall(r'\.arg\((file_argument|right_file)\(alloc(?:, "(\w+)")?', body):
-        yield name or re.search(r'Arg::new\(alloc, "(\w+)"\)', bodies[function])[1], bool(name)
+    for required, other in re.findall(r'\.arg\((?:file_argument\(alloc, "(\w+)"|Arg::new\(alloc, "(\w+)"\)\.help)', body):
+        yield required or other, bool(required)
 
 
 def each_option():

@@ -17,7 +17,7 @@ pub use Rattle.std.proofs.lemmas.Str.{IsUtf8-string_bytes}
 pub use Rattle.std.specs.Fmt.{signed_decimal}
 pub use Rattle.std.specs.Io.KnownBytes.{Appends, Consumes}
 unfoldable pub use Rattle.clap.proofs.OnLiterals.{clap_on_literals}
-pub use Rattle.clap.specs.Simple.{Shape, app_of_fields}
+pub use Rattle.clap.specs.Simple.{Shape}
 pub use Rattle.clap.specs.Takes.{settle_passes, word_passes, step_passes, turn_passes, default_passes, is_valid, level_passes}
 unfoldable pub use Rattle.clap.specs.Takes.{walk_passes}
 pub use Rattle.clap.specs.Walk.{Rule, arg_by_id, arg_by_index, Held, settled, option, idle, next, value, option_word, word_met, Walk, to_positional, after_step}

@@ -6,7 +6,7 @@ pub use Rattle.std.specs.Slice.Iter.{iter_rest}
 pub use Rattle.serde_json.specs.Data.{string, Data}
 pub use Rattle.serde_json.specs.View.{view}
 pub use Rattle.serde_json.specs.Written.{comma_if, compact_text}
-pub use Rattle.clap.specs.Words.{app_of, first_of, found_of, kind_of, rows_of, rule_of, subcommand_rows_of, with_rule}
+pub use Rattle.clap.specs.Words.{app_of, first_of, found_of, kind_of, new_app, rows_of, rule_of, subcommand_rows_of, with_rule}
 pub use Rattle.erd_tables.specs.Faults.{fault_line, reason_number, reason_text}
 pub use Rattle.erd_tables.specs.Places.{escaped_byte, escaped_name, pointer_text, step_text}
 pub use Rattle.erd_check.specs.Numbers.{HasFittingNumbers}

@@ -1,7 +1,8 @@
 ghost use Rattle.std.specs.Prelude.{◌≡◌, IfOk, codes, false, map};
 ghost use Rattle.erd_canon.specs.Words.{ballots_subcommand, canon_subcommand, check_subcommand, compare_subcommand, differences_subcommand, file_rule};
-ghost use Rattle.erd_canon.specs.Words.{json_rule, list_rule, prefer_rule, prepare_subcommand, program, report_rule, optional_file_rule, steps_rule, app_of};
-ghost use Rattle.erd_canon.specs.Words.{rule_of, with_rule};
+ghost use Rattle.erd_canon.specs.Words.{json_rule, list_rule, prefer_rule, prepare_subcommand, program, report_rule, optional_file_rule, steps_rule};
+ghost use Rattle.erd_canon.specs.Words.{app_of, new_app, rule_of, with_rule};
+ghost use Rattle.erd_canon.specs.Subcommands.{flag_rule, text_rule};
 ghost use Rattle.clap.specs.declared.builder.command.Command.TheViews.{out-Command};
 
 use crate::commands::help;
@@ -13,16 +14,19 @@ use std::alloc::{AllocError, Global};
 pub(crate) fn program_command<'a>(alloc: Global) -> Result<Command<'a>, AllocError>
     ensures { IfOk result (λ command. app_of command ≡ program) }
 {
-    Command::new(alloc, "erd")
-        .about(help::PROGRAM)
-        .long_about(help::PROGRAM_AT_LENGTH)
-        .after_help(help::PROGRAM_ENDS)
-        .subcommand(check_command(alloc)?)?
-        .subcommand(canon_command(alloc)?)?
-        .subcommand(compare_command(alloc)?)?
-        .subcommand(differences_command(alloc)?)?
-        .subcommand(ballots_command(alloc)?)?
-        .subcommand(prepare_command(alloc)?)
+    described(
+        alloc,
+        "erd",
+        help::PROGRAM,
+        help::PROGRAM_AT_LENGTH,
+        help::PROGRAM_ENDS,
+    )
+    .subcommand(check_command(alloc)?)?
+    .subcommand(canon_command(alloc)?)?
+    .subcommand(compare_command(alloc)?)?
+    .subcommand(differences_command(alloc)?)?
+    .subcommand(ballots_command(alloc)?)?
+    .subcommand(prepare_command(alloc)?)
 }
 
 // The subcommand `check [--json] [--prefer TYPE] FILE`.
@@ -30,13 +34,14 @@ fn check_command<'a>(alloc: Global) -> Result<Command<'a>, AllocError>
     ensures app { IfOk result (λ command. app_of command ≡ check_subcommand) }
     ensures local { IfOk result (λ command. (out-Command command).has_globals ≡ false) }
 {
-    Command::new(alloc, "check")
-        .about(help::CHECK)
-        .long_about(help::CHECK_AT_LENGTH)
-        .after_help(help::CHECK_ENDS)
-        .arg(json_argument(alloc))?
-        .arg(prefer_argument(alloc))?
-        .arg(file_argument(alloc, "FILE", help::FILE))
+    let command = described(
+        alloc,
+        "check",
+        help::CHECK,
+        help::CHECK_AT_LENGTH,
+        help::CHECK_ENDS,
+    );
+    with_json_and_prefer(alloc, command)?.arg(file_argument(alloc, "FILE", help::FILE))
 }
 
 // The subcommand `canon [--prefer TYPE] FILE`.
@@ -44,12 +49,14 @@ fn canon_command<'a>(alloc: Global) -> Result<Command<'a>, AllocError>
     ensures app { IfOk result (λ command. app_of command ≡ canon_subcommand) }
     ensures local { IfOk result (λ command. (out-Command command).has_globals ≡ false) }
 {
-    Command::new(alloc, "canon")
-        .about(help::CANON)
-        .long_about(help::CANON_AT_LENGTH)
-        .after_help(help::CANON_ENDS)
-        .arg(prefer_argument(alloc))?
-        .arg(file_argument(alloc, "FILE", help::FILE))
+    let command = described(
+        alloc,
+        "canon",
+        help::CANON,
+        help::CANON_AT_LENGTH,
+        help::CANON_ENDS,
+    );
+    with_prefer_and_file(alloc, command)
 }
 
 // The subcommand `compare [--json] [--prefer TYPE] LEFT RIGHT`.
@@ -57,12 +64,14 @@ fn compare_command<'a>(alloc: Global) -> Result<Command<'a>, AllocError>
     ensures app { IfOk result (λ command. app_of command ≡ compare_subcommand) }
     ensures local { IfOk result (λ command. (out-Command command).has_globals ≡ false) }
 {
-    let command = Command::new(alloc, "compare")
-        .about(help::COMPARE)
-        .long_about(help::COMPARE_AT_LENGTH)
-        .after_help(help::COMPARE_ENDS)
-        .arg(json_argument(alloc))?
-        .arg(prefer_argument(alloc))?;
+    let command = described(
+        alloc,
+        "compare",
+        help::COMPARE,
+        help::COMPARE_AT_LENGTH,
+        help::COMPARE_ENDS,
+    );
+    let command = with_json_and_prefer(alloc, command)?;
     with_two_files(alloc, command)
 }
 
@@ -71,12 +80,14 @@ fn differences_command<'a>(alloc: Global) -> Result<Command<'a>, AllocError>
     ensures app { IfOk result (λ command. app_of command ≡ differences_subcommand) }
     ensures local { IfOk result (λ command. (out-Command command).has_globals ≡ false) }
 {
-    let command = Command::new(alloc, "differences")
-        .about(help::DIFFERENCES)
-        .long_about(help::DIFFERENCES_AT_LENGTH)
-        .after_help(help::DIFFERENCES_ENDS)
-        .arg(json_argument(alloc))?
-        .arg(prefer_argument(alloc))?;
+    let command = described(
+        alloc,
+        "differences",
+        help::DIFFERENCES,
+        help::DIFFERENCES_AT_LENGTH,
+        help::DIFFERENCES_ENDS,
+    );
+    let command = with_json_and_prefer(alloc, command)?;
     with_two_files(alloc, command)
 }
 
@@ -85,12 +96,14 @@ fn ballots_command<'a>(alloc: Global) -> Result<Command<'a>, AllocError>
     ensures app { IfOk result (λ command. app_of command ≡ ballots_subcommand) }
     ensures local { IfOk result (λ command. (out-Command command).has_globals ≡ false) }
 {
-    let command = Command::new(alloc, "ballots")
-        .about(help::BALLOTS)
-        .long_about(help::BALLOTS_AT_LENGTH)
-        .after_help(help::BALLOTS_ENDS)
-        .arg(json_argument(alloc))?
-        .arg(prefer_argument(alloc))?;
+    let command = described(
+        alloc,
+        "ballots",
+        help::BALLOTS,
+        help::BALLOTS_AT_LENGTH,
+        help::BALLOTS_ENDS,
+    );
+    let command = with_json_and_prefer(alloc, command)?;
     with_one_or_two_files(alloc, command)
 }
 
@@ -99,24 +112,66 @@ fn prepare_command<'a>(alloc: Global) -> Result<Command<'a>, AllocError>
     ensures app { IfOk result (λ command. app_of command ≡ prepare_subcommand) }
     ensures local { IfOk result (λ command. (out-Command command).has_globals ≡ false) }
 {
-    let command = Command::new(alloc, "prepare")
-        .about(help::PREPARE)
-        .long_about(help::PREPARE_AT_LENGTH)
-        .after_help(help::PREPARE_ENDS)
-        .arg(list_argument(alloc))?
-        .arg(report_argument(alloc))?;
-    with_steps(alloc, command)
+    let command = described(
+        alloc,
+        "prepare",
+        help::PREPARE,
+        help::PREPARE_AT_LENGTH,
+        help::PREPARE_ENDS,
+    );
+    let command = with_list_report_and_steps(alloc, command)?;
+    with_prefer_and_file(alloc, command)
 }
 
-// Adds the options `--steps STEPS` and `--prefer TYPE`, and the argument `FILE`.
-fn with_steps<'a>(alloc: Global, command: Command<'a>) -> Result<Command<'a>, AllocError>
-    ensures app { IfOk result (λ r. app_of r ≡ with_rule (with_rule (with_rule (app_of command.entry) steps_rule) prefer_rule) (file_rule (codes "FILE"))) }
+// A command with this name, which help describes in a line, at length, and by what it ends with.
+fn described<'a>(
+    alloc: Global,
+    name: &'a str,
+    line: &'a str,
+    at_length: &'a str,
+    end: &'a str,
+) -> Command<'a>
+    ensures app { app_of result ≡ new_app name.entry.now }
+    ensures local { (out-Command result).has_globals ≡ false }
+{
+    Command::new(alloc, name)
+        .about(line)
+        .long_about(at_length)
+        .after_help(end)
+}
+
+// Adds the options `--json` and `--prefer TYPE`.
+fn with_json_and_prefer<'a>(alloc: Global, command: Command<'a>) -> Result<Command<'a>, AllocError>
+    ensures app { IfOk result (λ r. app_of r ≡ with_rule (with_rule (app_of command.entry) json_rule) prefer_rule) }
     ensures local { (out-Command command.entry).has_globals ≡ false → IfOk result (λ r. (out-Command r).has_globals ≡ false) }
 {
     command
-        .arg(steps_argument(alloc))?
-        .arg(prefer_argument(alloc))?
+        .arg(flag(alloc, "json", help::JSON, help::JSON_AT_LENGTH))?
+        .arg(prefer_option(alloc))
+}
+
+// Adds the option `--prefer TYPE` and the argument `FILE`.
+fn with_prefer_and_file<'a>(alloc: Global, command: Command<'a>) -> Result<Command<'a>, AllocError>
+    ensures app { IfOk result (λ r. app_of r ≡ with_rule (with_rule (app_of command.entry) prefer_rule) (file_rule (codes "FILE"))) }
+    ensures local { (out-Command command.entry).has_globals ≡ false → IfOk result (λ r. (out-Command r).has_globals ≡ false) }
+{
+    command
+        .arg(prefer_option(alloc))?
         .arg(file_argument(alloc, "FILE", help::FILE))
+}
+
+// Adds the options `--list`, `--report` and `--steps STEPS`.
+fn with_list_report_and_steps<'a>(
+    alloc: Global,
+    command: Command<'a>,
+) -> Result<Command<'a>, AllocError>
+    ensures app { IfOk result (λ r. app_of r ≡ with_rule (with_rule (with_rule (app_of command.entry) list_rule) report_rule) steps_rule) }
+    ensures local { (out-Command command.entry).has_globals ≡ false → IfOk result (λ r. (out-Command r).has_globals ≡ false) }
+{
+    command
+        .arg(flag(alloc, "list", help::LIST, help::LIST_AT_LENGTH))?
+        .arg(flag(alloc, "report", help::REPORT, help::REPORT_AT_LENGTH))?
+        .arg(text_option(alloc, "STEPS", "steps", help::STEPS, help::STEPS_AT_LENGTH))
 }
 
 // Adds the arguments `LEFT` and `RIGHT`.
@@ -136,7 +191,7 @@ fn with_one_or_two_files<'a>(alloc: Global, command: Command<'a>) -> Result<Comm
 {
     command
         .arg(file_argument(alloc, "FILE", help::FILE_OR_LEFT))?
-        .arg(right_file(alloc))
+        .arg(Arg::new(alloc, "RIGHT").help(help::RIGHT_IF_ANY))
 }
 
 // A required argument that names a file.
@@ -147,70 +202,46 @@ fn file_argument<'a>(alloc: Global, id: &'a str, text: &'a str) -> Arg<'a>
     Arg::new(alloc, id).required(true).help(text)
 }
 
-// The second file of two, which may be left out.
-fn right_file<'a>(alloc: Global) -> Arg<'a>
-    ensures rule { rule_of result ≡ optional_file_rule (codes "RIGHT") }
+// A flag with this name.
+fn flag<'a>(alloc: Global, name: &'a str, line: &'a str, at_length: &'a str) -> Arg<'a>
+    ensures rule { rule_of result ≡ flag_rule name.entry.now }
     ensures local { result.global ≡ false }
 {
-    Arg::new(alloc, "RIGHT").help(help::RIGHT_IF_ANY)
-}
-
-// The option `--json`.
-fn json_argument<'a>(alloc: Global) -> Arg<'a>
-    ensures rule { rule_of result ≡ json_rule }
-    ensures local { result.global ≡ false }
-{
-    Arg::new(alloc, "json")
-        .long("json")
+    Arg::new(alloc, name)
+        .long(name)
         .action(ArgAction::SetTrue)
-        .help(help::JSON)
-        .long_help(help::JSON_AT_LENGTH)
+        .help(line)
+        .long_help(at_length)
 }
 
-// The option `--list`.
-fn list_argument<'a>(alloc: Global) -> Arg<'a>
-    ensures rule { rule_of result ≡ list_rule }
-    ensures local { result.global ≡ false }
-{
-    Arg::new(alloc, "list")
-        .long("list")
-        .action(ArgAction::SetTrue)
-        .help(help::LIST)
-        .long_help(help::LIST_AT_LENGTH)
-}
-
-// The option `--report`.
-fn report_argument<'a>(alloc: Global) -> Arg<'a>
-    ensures rule { rule_of result ≡ report_rule }
-    ensures local { result.global ≡ false }
-{
-    Arg::new(alloc, "report")
-        .long("report")
-        .action(ArgAction::SetTrue)
-        .help(help::REPORT)
-        .long_help(help::REPORT_AT_LENGTH)
-}
-
-// The option `--prefer TYPE`. It rejects an empty type.
-fn prefer_argument<'a>(alloc: Global) -> Arg<'a>
+// The option `--prefer TYPE`.
+fn prefer_option<'a>(alloc: Global) -> Arg<'a>
     ensures rule { rule_of result ≡ prefer_rule }
     ensures local { result.global ≡ false }
 {
-    Arg::new(alloc, "TYPE")
-        .long("prefer")
-        .value_parser(ValueParser::NonEmptyString)
-        .help(help::PREFER)
-        .long_help(help::PREFER_AT_LENGTH)
+    text_option(
+        alloc,
+        "TYPE",
+        "prefer",
+        help::PREFER,
+        help::PREFER_AT_LENGTH,
+    )
 }
 
-// The option `--steps STEPS`. It rejects an empty text.
-fn steps_argument<'a>(alloc: Global) -> Arg<'a>
-    ensures rule { rule_of result ≡ steps_rule }
+// An option with this name that takes a text. It rejects an empty one.
+fn text_option<'a>(
+    alloc: Global,
+    id: &'a str,
+    name: &'a str,
+    line: &'a str,
+    at_length: &'a str,
+) -> Arg<'a>
+    ensures rule { rule_of result ≡ text_rule id.entry.now name.entry.now }
     ensures local { result.global ≡ false }
 {
-    Arg::new(alloc, "STEPS")
-        .long("steps")
+    Arg::new(alloc, id)
+        .long(name)
         .value_parser(ValueParser::NonEmptyString)
-        .help(help::STEPS)
-        .long_help(help::STEPS_AT_LENGTH)
+        .help(line)
+        .long_help(at_length)
 }
