@@ -114,7 +114,7 @@ fn has_parts(text: &str, parts: &[&str]) -> Answer {
 }
 
 fn is_told(alloc: Global, line: &str, parts: &[&str]) -> Answer {
-    match request(alloc, line) {
+    match &request(alloc, line) {
         Err(LineFault::Help(text)) => has_parts(text.as_str(), parts),
         Err(LineFault::Usage(text)) => has_parts(text.as_str(), parts),
         Err(LineFault::Memory) => Answer::WantsMemory,

@@ -4,6 +4,7 @@ use crate::tests::program::world::{Ended, GOOD, Good, REPORT, run};
 use crate::tests::refusing::each_refused;
 use erd_program::WorldFault;
 use std::alloc::Global;
+use std::process::Abort;
 use std::test::Fail;
 
 mod world;
@@ -203,34 +204,61 @@ const LINES: [(&str, &[&str], usize); 8] = [
     ("erd --help", &[], 0),
 ];
 
-// Each opening, each read, each write and each flush fails in turn.
+// Each opening fails in turn.
+fn each_opening_fails(
+    rt: &impl Abort,
+    alloc: Global,
+    line: &str,
+    unopened: &[&str],
+) -> Result<(), Fail> {
+    let mut opens = 0;
+    for told in unopened {
+        let found = run(alloc, Ok(line), Good { opens, ..GOOD });
+        assert!(rt; is(&found, 3, NOTHING, told), "at {line}, {opens}");
+        opens = opens.saturating_add(1);
+    }
+    Ok(())
+}
+
+// Each read fails in turn.
+fn each_read_fails(rt: &impl Abort, alloc: Global, line: &str, count: usize) -> Result<(), Fail> {
+    for reads in 0..count {
+        let found = run(alloc, Ok(line), Good { reads, ..GOOD });
+        assert!(rt;
+            is(&found, 3, NOTHING, "read failed\n"),
+            "at {line}, {reads}"
+        );
+    }
+    Ok(())
+}
+
+// Whether a write failed, and what was written before it is how the whole begins.
+fn has_failed_write(found: &Ended, whole: &Ended) -> bool {
+    found.status == 3
+        && found.err.text() == "write failed\n".as_bytes()
+        && whole.out.text().starts_with(found.out.text())
+}
+
+// Each write and each flush fails in turn.
+fn each_write_fails(rt: &impl Abort, alloc: Global, line: &str) -> Result<(), Fail> {
+    let whole = run(alloc, Ok(line), GOOD);
+    for calls in 0..40 {
+        let found = run(alloc, Ok(line), Good { out: calls, ..GOOD });
+        let is_whole = found.is(whole.status, whole.out.text(), whole.err.text());
+        assert!(rt;
+            has_failed_write(&found, &whole) || (is_whole && calls > 1),
+            "at {line}, {calls}"
+        );
+    }
+    Ok(())
+}
+
 #[test]
 fn each_call_fails(rt: HostRuntime) -> Result<(), Fail> {
     for (line, unopened, reads) in LINES {
-        let mut opens = 0;
-        for told in unopened {
-            let found = run(rt.alloc(), Ok(line), Good { opens, ..GOOD });
-            assert!(rt; is(&found, 3, NOTHING, told), "at {line}, {opens}");
-            opens = opens.saturating_add(1);
-        }
-        for reads in 0..reads {
-            let found = run(rt.alloc(), Ok(line), Good { reads, ..GOOD });
-            assert!(rt;
-                is(&found, 3, NOTHING, "read failed\n"),
-                "at {line}, {reads}"
-            );
-        }
-        let whole = run(rt.alloc(), Ok(line), GOOD);
-        for calls in 0..40 {
-            let found = run(rt.alloc(), Ok(line), Good { out: calls, ..GOOD });
-            let is_part = whole.out.text().starts_with(found.out.text());
-            let fails = found.status == 3 && found.err.text() == "write failed\n".as_bytes();
-            let is_whole = found.status == whole.status && found.out.text() == whole.out.text();
-            assert!(rt;
-                is_part && (fails || (is_whole && calls > 1)),
-                "at {line}, {calls}"
-            );
-        }
+        each_opening_fails(&rt, rt.alloc(), line, unopened)?;
+        each_read_fails(&rt, rt.alloc(), line, reads)?;
+        each_write_fails(&rt, rt.alloc(), line)?;
     }
     Ok(())
 }

@@ -113,8 +113,8 @@ pub fn request(alloc: Global, line: &str) -> Result<Request, LineFault> {
 }
 
 fn answer(alloc: Global, line: &str) -> Result<String, AllocError> {
-    match request(alloc, line) {
-        Ok(request) => told(alloc, &request),
+    match &request(alloc, line) {
+        Ok(request) => told(alloc, request),
         Err(LineFault::Help(_)) => String::from_str(alloc, "help"),
         Err(LineFault::Usage(_)) => String::from_str(alloc, "usage"),
         Err(LineFault::Memory) => Err(AllocError),
