@@ -1,7 +1,7 @@
 #!/usr/bin/env bash
 # Makes a release in this folder and in another one, compares every byte, and uses its files as a new user would: the packages of
 # the library, those for arm64 under qemu, and the archive for Windows under wine. With FORMS_ARE_MADE=yes the first one takes the forms that
-# are there; the other one makes each anew. One line a case.
+# are there; the other one makes each anew. In the gate both take what clang has made of the same module by the same flags. One line a case.
 set -u
 . "$(dirname "$0")/../shared/start.sh" || exit 1
 . tests/shared/commands.sh
@@ -62,6 +62,9 @@ if git rev-parse --verify -q HEAD > /dev/null 2>&1; then
 fi
 run python3 tests/forms/release_bill.py "$release" "$version"
 expect_text 'the bill of materials' 0 ''
+
+# In the gate, what clang has made of the same module serves in both folders, so no path of a folder may be in it.
+said 'no form has the path of this folder' "$(grep -rlF "$PWD/" out/portable "$release" | head -n 3)"
 
 # The same in another folder. What is proved and compiled here serves there. Where CASES, as of wrong lines, leave this out, the folder
 # has the files that were made here.
