@@ -70,13 +70,13 @@ proved_for() {
 }
 
 # compile MODULE OBJECT FLAG ..: compiles a module by these flags. Where $KEPT_OBJECTS names a folder, as the gate does, which makes the same
-# forms in two folders, what clang has made of the same module, profile and flags is taken from there
+# forms in two folders, what clang has made of the same module under this name, by the same profile and flags, is taken from there
 compile() {
     local flags=("${@:3}" -Wno-override-module) kept=''
     if [ -n "${KEPT_OBJECTS:-}" ]; then
         mkdir -p "$KEPT_OBJECTS"
         kept=$KEPT_OBJECTS/$({
-            printf '%s\n' "${flags[@]//"$PWD"/.}"
+            printf '%s\n' "$1" "${flags[@]//"$PWD"/.}"
             cat "$1" packaging/profile/erd.proftext
         } | sha256sum | cut -c 1-64)
         [ ! -e "$kept" ] || { cp "$kept" "$2"; return; }
