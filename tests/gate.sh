@@ -78,7 +78,8 @@ edits() {
 }
 
 # tests/forms/other_machines.sh and other_programs.sh make each form anew; the release in this folder takes these, and that in another folder
-# makes them once more. What clang has made of the same bytes serves there, and tests/forms/same_bytes.sh looks whether it makes them alike.
+# makes them once more, but for what clang has made of the same module. That clang makes the program and the C library alike in two folders
+# is seen by tests/forms/same_bytes.sh; for the forms for other machines the gate looks only whether they have the path of a folder.
 export FORMS_ARE_MADE=yes KEPT_OBJECTS=$results/objects
 
 # What `rt ci` has proved, compiled and run is what the scripts run, and a release takes the forms that are made here, so nothing older may
