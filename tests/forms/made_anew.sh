@@ -316,6 +316,10 @@ cp "$work/erd.proftext" "$tree/packaging/profile/erd.proftext"
 sed -i 's/ -fPIE)/ -fPIE -g)/' "$tree/packaging/portable/program.sh"
 equal 'and by other flags' "$(compiled)" 'heap.ll proved.ll'
 cp packaging/portable/program.sh "$tree/packaging/portable"
+sed -i 's|^prefix=$parts/program_|prefix=$parts/named_|' "$tree/packaging/portable/program.sh"
+compiled > "$work/named"
+equal 'and under another name' "$(grep -c '^clang .* -c .*/named_aarch64_plain_' "$asked")" 2
+cp packaging/portable/program.sh "$tree/packaging/portable"
 
 sed -i 's/^\(  call.*\)128(/\1128( @llvm.x86.other.b(/' "$tree/crates/erd/out/module.bc"
 fresh env PROFILE=no packaging/portable/program.sh aarch64
